@@ -30,11 +30,12 @@ FORMAT = [
     "An exact cover is a choice of options in which each primary item stands exactly once, and each secondary item at most once or always with the same "
     "colour. The answer is the line \"cover k\" and its k options, or \"none\"."]
 EXAMPLES = {
-    "solve_cli alone sudoku.dlx": "searches on one thread",
-    "solve_cli alone --unlimited board.dlx": "searches until it is decided",
+    "solve_cli answer sudoku.dlx": "answers by whatever is first",
+    "solve_cli answer board.dlx --reason": "says what the answer rests on, too",
+    "solve_cli alone --unlimited board.dlx": "searches on one thread until it is decided",
     "solve_cli solve --nodes 1 --workers 4 school.dlx > plan": "searches with four threads",
     "solve_cli check school.dlx plan": "tests what that wrote",
-    "printf 'a b c\\na b\\nc\\nb c\\n' | solve_cli alone -": "reads a problem of three options from standard input"}
+    "printf 'a b c\\na b\\nc\\nb c\\n' | solve_cli answer -": "reads a problem of three options from standard input"}
 
 
 @dataclass

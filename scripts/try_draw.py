@@ -436,9 +436,14 @@ def refusals(trial: Drawing) -> None:
         ended = trial.python("scripts/draw.py", letters_file, trial.path("no-answer", nothing))
         trial.expect(f"draw.py says of no answer: {ended.stderr!r}", ended.returncode == 3 and told in ended.stderr)
     cover = trial.path("cover", b"cover 3\nc e\na d f\nb g\n")
-    audited = trial.path("audited", content(cover) + b"audit clean\n")
-    texts = [trial.python("scripts/draw.py", letters_file, path).stdout for path in (cover, audited)]
-    trial.expect("an audit's line is passed over", texts[0] and texts[0] == texts[1])
+    behind = (b"audit clean\n", b"by search of 5 states\n", b"by 1 learned clause\n")
+    paths = [cover, *(trial.path(f"behind-{place}", content(cover) + line) for place, line in enumerate(behind))]
+    texts = [trial.python("scripts/draw.py", letters_file, path).stdout for path in paths]
+    trial.expect("an audit's line and what an answer rests on are passed over", texts[0] and len(set(texts)) == 1)
+    reasons = (b"", b"weights modulo 2\nweigh 1 a\n", b"by a run of 2 workers\n")
+    nones = [trial.path(f"none-{place}", b"none\n" + reason) for place, reason in enumerate(reasons)]
+    texts = [trial.python("scripts/draw.py", letters_file, path).stdout for path in nones]
+    trial.expect("a reason behind none is passed over", texts[0] and len(set(texts)) == 1)
     wrong = trial.path("wrong", b"cover 1\nc e\n")
     trial.expect("no exact cover", b"no exact cover" in trial.python("scripts/draw.py", letters_file, wrong).stderr)
 

@@ -33,6 +33,8 @@ PROGRAM = SOLVE_CLI
 Word = Union[str, bytes]
 LINE = re.compile(r"\d+ s: \d+ visits, +\d+\.\d{4} % of the tree, \d+ jobs? out, fullest book \d+ %(?:, some \d+ (?:s|min|h|days) left)?")
 LEARNED = re.compile(r"\d+ s: \d+ conflicts, \d+ clauses, \d+ restarts")
+# what an answer rests on, where that is no reason
+BASIS = re.compile(rb"by (search of (1 state|\d+ states)|(1 learned clause|\d+ learned clauses)|a run of (1 worker|\d workers))\n")
 SPENT = b"ended: the fuel is spent: try more --fuel, or --unlimited\n"
 # the header of a packet: magic, version, kind, the sender's node and incarnation, and the receiver's
 HEADER = struct.Struct(">2sBBBIBI")
@@ -248,6 +250,29 @@ def learning(folder: str) -> None:
         expect("a line of learn each second", lines[:-1] and all(map(LEARNED.fullmatch, lines[:-1])))
 
 
+def reasoned(folder: str) -> None:
+    """What `answer --reason` writes behind an answer: whose lines stay as they are; a reason as `why` writes it; nothing where there is no answer."""
+    for name in sorted(NONE | {"letters.dlx", "ignored.dlx"}):
+        file = os.path.join(TOP, "examples", name)
+        plain, (out, errors, status) = run("answer", file), run("answer", file, "--reason")
+        expect(f"the answer before the reason of {name}", out.startswith(plain[0]) and (errors, status) == plain[1:])
+        behind = out[len(plain[0]):]
+        expect(f"the reason of {name}: {behind!r}", BASIS.fullmatch(behind) or out == run("why", file)[0])
+    letters = os.path.join(TOP, "examples", "letters.dlx")
+    cover = b"cover 3\nc e\na d f\nb g\nby search of 5 states\n"
+    expect("states that were counted by hand", run("answer", letters, "--reason") == (cover, b"", 0))
+    told = run("answer", letters, "--reason", "--progress")
+    expect(f"what answered, and the reason: {told}", told == (cover, b"answered by the search\n", 0))
+    path = board(folder, 18)
+    for threads in "2", "4":
+        out, errors, status = run("answer", path, "--reason", "--progress", "--threads", threads)
+        expect(f"a reason by {threads} threads: {out!r} {errors!r}", (out, status) == (run("why", path)[0], 1) and errors.endswith(b"answered by a reason\n"))
+    late = b"ended: the time is over: try more --seconds, or solve\n"
+    expect("no reason without an answer", run("answer", search_of_years(folder), "--reason", "--seconds", "1") == (b"no answer\n", late, 4))
+    with open("/dev/full", "wb") as full:
+        expect("a reason on a full disk", run("answer", letters, "--reason", stdout=full)[1:] == (b"cannot write\n", 3))
+
+
 def sites_of(*words: str) -> tuple[int, int]:
     """How many sockets and threads a run of `solve` has after a second."""
     long = os.path.join(TOP, "examples", "mutilated-chessboard.dlx")
@@ -433,16 +458,23 @@ def help_on(output: Union[int, IO[bytes]], *words: str) -> tuple[int, str]:
     return ended.returncode, ended.stderr
 
 
-def many_visits(folder: str) -> None:
-    """A search of 10^15 visits ends, since few of its states differ, and its count is exact: with one visit less there is
-    no answer. A count in C gave the visits, state by state."""
-    cells = [(row, column) for row in range(12) for column in range(12) if (row, column) not in ((0, 0), (11, 11))]
+def board(folder: str, side: int) -> str:
+    """A file of dominoes on a square board without two corners, which have no cover."""
+    last = side - 1
+    cells = [(row, column) for row in range(side) for column in range(side) if (row, column) not in ((0, 0), (last, last))]
     names = {cell: f"r{cell[0]}c{cell[1]}" for cell in cells}
     pairs = [((row, column), other) for row, column in cells for other in ((row, column + 1), (row + 1, column)) if other in names]
-    path = os.path.join(folder, "dominoes.dlx")
+    path = os.path.join(folder, f"dominoes-{side}.dlx")
     with open(path, "w", encoding="ascii") as file:
         print(*names.values(), file=file)
         print(*(f"{names[one]} {names[other]}" for one, other in pairs), sep="\n", file=file)
+    return path
+
+
+def many_visits(folder: str) -> None:
+    """A search of 10^15 visits ends, since few of its states differ, and its count is exact: with one visit less there is
+    no answer. A count in C gave the visits, state by state."""
+    path = board(folder, 12)
     visits = 1_455_115_025_598_703
     expect("as many visits as it takes", run("alone", path, "--fuel", str(visits)) == (b"none\n", b"", 1))
     expect("one visit less", run("alone", path, "--fuel", str(visits - 1)) == (b"no answer\n", SPENT, 4))
@@ -490,6 +522,7 @@ def main() -> int:
         many_visits(folder)
         timed(folder)
         learning(folder)
+        reasoned(folder)
         installing(os.path.join(folder, "dest"))
         installing_again(os.path.join(folder, "dest"))
         options_of_solve(folder)

@@ -1,5 +1,5 @@
 #!/usr/bin/env python3
-"""Runs `solve` where threads can't be started or memory runs out, and shows how each run ended.
+"""Runs `solve` and `answer` where threads can't be started or memory runs out, and shows how each run ended.
 
     python3 scripts/try_shortage.py [--short] [--growths N] [--limit SECONDS]
 
@@ -9,6 +9,9 @@ workers N (100) of them, spread over a run. Then, with eight workers, all growth
 runs. `refuse_growth.c`, which is built here and loaded before the C library, refuses them. Each answer has to be the right one. A run has to
 end within the limit (60 seconds). Where memory ran out and there is no answer, the status has to be 5 and standard error has to say so; but
 a thread whose growth is refused at its start is one that can't be started, and then status 4 is right, too.
+
+`answer` is run with no, one and two further threads, and with each growth refused, and all from each on, in as many runs: it ends with the answer, since
+its search needs no further thread, or where memory was refused with status 5.
 
 Last it is solved in a network namespace without a loopback device, where the system allows one: status 3 and `cannot bind` within a second.
 
@@ -31,9 +34,12 @@ from built import SOLVE_CLI, TOP, number_from_one, parser_of, want_command, want
 
 LETTERS = "a b c d e f g\nc e\na d g\nb c f\na d f\nb g\nd e g\n"
 ANSWER = "cover 3\nc e\na d f\nb g\n"
+# by the search, to whose states nothing that is refused adds any
+REASONED = ANSWER + "by search of 5 states\n"
 THREADS = (0, 1, 2, 4, 8, 12, 16)
 ALONE = ("--nodes", "1", "--workers", "1")
 USUAL: Sequence[str] = ()
+WITH_REASON = ("--reason",)
 FEW = 25
 ONE, ALL = "refuse_growth", "refuse_from"
 
@@ -59,7 +65,7 @@ class Trial:
         with open(self.file, "w", encoding="ascii") as file:
             file.write(LETTERS)
 
-    def run(self, words: Sequence[str] = USUAL, **refused: int) -> Ended:
+    def run(self, words: Sequence[str] = USUAL, mode: str = "solve", **refused: int) -> Ended:
         """One run with these words and refusals; a run that doesn't end within twice the limit is stopped."""
         given = {name.upper(): str(value) for name, value in refused.items()}
         env = dict(os.environ, LD_PRELOAD=self.library, GROWTHS_FILE=self.count, **given)
@@ -67,7 +73,7 @@ class Trial:
             os.remove(self.count)
         start = time.monotonic()
         try:
-            ran = subprocess.run([SOLVE_CLI, "solve", self.file, *words], capture_output=True, text=True, env=env, timeout=2 * self.limit)
+            ran = subprocess.run([SOLVE_CLI, mode, self.file, *words], capture_output=True, text=True, env=env, timeout=2 * self.limit)
         except subprocess.TimeoutExpired:
             return Ended(None, "", "", time.monotonic() - start)
         return Ended(ran.returncode, ran.stdout, ran.stderr, time.monotonic() - start)
@@ -80,31 +86,32 @@ class Trial:
 
     def judge(self, ended: Ended, memory: bool) -> None:
         """Counts a run that went wrong, and prints how. Without `memory` there may be no answer since threads can't be started."""
-        right = (ended.status == 0 and ended.text == ANSWER) or (ended.status == 4 and ended.text == "no answer\n" and not memory) or (
+        right = (ended.status == 0 and ended.text in (ANSWER, REASONED)) or (ended.status == 4 and ended.text == "no answer\n" and not memory) or (
             memory and ended.status == 5 and "out of memory" in ended.why and not ended.text)
         if not right or ended.seconds > self.limit:
             self.wrong += 1
             print(f"wrong: status {ended.status}, {ended.text!r}, {ended.why!r}, {ended.seconds:.1f} s")
 
 
-def threads(trial: Trial, numbers: Sequence[int]) -> None:
-    print("| Threads | Status | Seconds |")
+def threads(trial: Trial, numbers: Sequence[int], mode: str = "solve") -> None:
+    print(f"| Threads of {mode} | Status | Seconds |")
     print("|---|---|---|")
     for most in numbers:
-        ended = trial.run(most_threads=most)
+        ended = trial.run(mode=mode, most_threads=most)
         trial.judge(ended, False)
+        trial.wrong += mode == "answer" and ended.status == 4
         print(f"| {most} | {ended.status} | {ended.seconds:.2f} |", flush=True)
 
 
-def growths(trial: Trial, name: str, words: Sequence[str], what: str, count: int) -> None:
+def growths(trial: Trial, name: str, words: Sequence[str], what: str, count: int, mode: str = "solve") -> None:
     """Runs with a refusal at so many growths of a run with these words, or at each of them, as one row of a table."""
-    trial.judge(trial.run(words), False)
+    trial.judge(trial.run(words, mode), False)
     all_of, _, starts = trial.growths()
     places = sorted({1 + all_of * place // count for place in range(count)}) if count else list(range(1, all_of + 1))
     ended: list[Ended] = []
     unstarted = 0
     for place in places:
-        ended.append(trial.run(words, **{what: place}))
+        ended.append(trial.run(words, mode, **{what: place}))
         is_start = what == ONE and ended[-1].status is not None and trial.growths()[1] in starts
         unstarted += is_start
         trial.judge(ended[-1], not is_start)
@@ -139,10 +146,13 @@ def main() -> int:
     with tempfile.TemporaryDirectory(prefix="try-shortage-") as folder:
         trial = Trial(folder, given.limit)
         threads(trial, THREADS[::3] if given.short else THREADS)
+        threads(trial, (0, 1, 2), "answer")
         print("\n| Refused | Growths | Runs | At a thread's start | Answers | No answer | Out of memory | Longest, s |\n|---|---|---|---|---|---|---|---|")
         growths(trial, "one of a run with one worker", ALONE, ONE, FEW if given.short else 0)
         growths(trial, "one of a run with eight workers", USUAL, ONE, some)
         growths(trial, "all from one on", USUAL, ALL, max(some // 4, 1))
+        growths(trial, "one of `answer`", WITH_REASON, ONE, FEW if given.short else 0, "answer")
+        growths(trial, "all of `answer` from one on", WITH_REASON, ALL, FEW if given.short else 0, "answer")
         loopback(trial)
     print(f"{trial.wrong} runs went wrong")
     return 1 if trial.wrong else 0

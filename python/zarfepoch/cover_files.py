@@ -337,11 +337,29 @@ def is_audit(words: Line) -> bool:
     return [word.text for word in words[:2]] in ([b"audit", b"clean"], [b"audit", b"unclean:"])
 
 
+def is_basis(words: Line) -> bool:
+    """Whether a line is one in which `answer --reason` says what an answer rests on, and not a reason's."""
+    texts = [word.text for word in words]
+    return len(texts) > 2 and texts[0] == b"by" and texts[-1].rstrip(b"s") in (b"state", b"clause", b"worker")
+
+
+def is_reason(words: Line) -> bool:
+    """Whether a line is the first of a reason, as it stands behind `none`."""
+    return words[0].text in (b"weights", b"too", b"just")
+
+
+def answer_lines(lines: list[Line]) -> list[Line]:
+    """An answer's lines without what `solve --audit` and `answer --reason` write behind it."""
+    if lines and (is_audit(lines[-1]) or is_basis(lines[-1])):
+        return lines[:-1]
+    return lines[:1] if len(lines) > 1 and lines[0][0].text == b"none" and is_reason(lines[1]) else lines
+
+
 def read_audited(text: bytes, problem: Problem) -> Answer:
-    """An answer, without the line of an audit if that is what is wrong with it."""
+    """An answer, without what is written behind it if that is what is wrong with it: the line of an audit, or what it rests on."""
     lines = lines_of(text)
     answer = Answer(lines, problem)
-    return Answer(lines[:-1], problem) if answer.faults and is_audit(lines[-1] if lines else []) else answer
+    return Answer(answer_lines(lines), problem) if answer.faults else answer
 
 
 def refusal(faults: Sequence[Fault]) -> str:

@@ -1,15 +1,15 @@
 """Draws an answer to a problem file: as text in the terminal, and as a picture in SVG.
 
     python3 scripts/draw.py FILE ANSWER [--svg OUT] [--plan NAME ..] [--csv OUT]
-    crates/solve_cli/out/solve_cli alone FILE | python3 scripts/draw.py FILE -
+    crates/solve_cli/out/solve_cli answer FILE | python3 scripts/draw.py FILE -
 
 The kind of picture follows from the names of the items: tilings (cells are named by row and column, as 07, 0011 or 3-12) and solids (by layer,
 row and column, as 0-1-2), queens (r0 c0 and diagonals), sudokus (p00 r01 c01 b01, with regions of any shape, diagonals x1 y1, cages k0.1),
 kakuros (12 a5.8 d2.8), Langford pairs (1 s1 s3), timetables (ann-1), map colourings (A-B=red), perfect matchings of a graph (options of two
 items), lines through points (12 13 23); of problems with colours squares with coloured sides (12 h12:red v13:blue ..), words that cross
 (12:b 13:e), nonograms and star battles (row0 00:black ..), and cubes in a row. What isn't known is written as a list. Of the answer `none` the
-empty board is drawn where there is one; the line of an audit behind it is passed over. One of FILE and ANSWER may be `-`, the standard input.
-Where OUT is `-` the SVG is written in place of the text.
+empty board is drawn where there is one; what `solve --audit` or `answer --reason` writes behind it is passed over. One of FILE and ANSWER may be
+`-`, the standard input. Where OUT is `-` the SVG is written in place of the text.
 
 Of a timetable whose periods have their days (Mon1) a plan is drawn for each class, or for those whom --plan names: names of classes, teachers
 or rooms, or classes, teachers, rooms or all. A week begins with Monday, and a sheet is at most 1,200 pixels wide. --csv writes the plan as a

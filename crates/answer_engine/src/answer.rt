@@ -2,19 +2,20 @@
 
 ghost use Rattle.std.specs.Prelude.{◌≡◌, ◌≢◌, ◌-◌, ◌<◌, ◌^◌, IfOk, IfSome, None};
 ghost use Rattle.std.specs.Io.KnownBytes.{IsAtEnd};
-ghost use Rattle.answer_engine.specs.Answers.{AnswerSays, IsRight};
+ghost use Rattle.answer_engine.specs.Answers.{AnswerSays, IsWonOf};
 ghost use Rattle.search_engines.specs.Engines.{IsEnded, refuses_none};
 ghost use Rattle.search_engines.specs.Output.{IsOutputOf};
 
+use crate::basis::{Basis, Won};
 use crate::lanes::{learner_lane, run_lane, search_lane};
-use crate::race::{Race, Way, workers_of};
-use crate::race_watches::{LaneWatch, SearchWatch};
-use brancher::Unwatched;
-use cover_problem::{Answer, Problem};
+use crate::race::{Race, workers_of};
+use crate::race_watches::{CountingWatch, LaneWatch, SearchWatch};
+use crate::telling::write_told;
+use cover_problem::Problem;
 use dlx_reader::{Sink, Source};
 use search_engines::{
-    EndWatch, EngineEnd, EngineFault, ProgressLog, ProgressWatch, TimeLimit, first_answer,
-    read_whole, write_published,
+    EndWatch, EngineEnd, EngineFault, ProgressLog, ProgressWatch, TimeLimit, read_whole,
+    search_until,
 };
 use std::alloc::{AllocError, Global};
 use std::sync::Wait;
@@ -24,7 +25,7 @@ use std::time::Clock;
 /// How a run of `answer` ended: with status 0 for a cover, 1 for none, 4 where the time was over.
 pub type AnswerEnd = EngineEnd;
 
-/// Where an answer is looked for, and for how long.
+/// Where an answer is looked for, for how long, and what is written of it.
 #[derive(Drop)]
 pub struct Task<'a, R: Threads + Wait + Clock + Sync> {
     /// What starts threads, and tells the time.
@@ -35,26 +36,33 @@ pub struct Task<'a, R: Threads + Wait + Clock + Sync> {
     pub time: Option<TimeLimit>,
     /// How many threads may work at once: two search and learn, and what is more works for a run in memory.
     pub threads: u64,
+    /// Whether what the answer rests on is written behind it.
+    pub reason: bool,
 }
 
 /// What each lane has found.
 #[derive(Drop)]
 struct Found {
-    searched: Result<Option<Answer>, AllocError>,
-    learned: Result<Option<Answer>, AllocError>,
-    ran: Option<(Answer, Way)>,
+    searched: Result<Option<Won>, AllocError>,
+    learned: Result<Option<Won>, AllocError>,
+    ran: Option<Won>,
 }
 
-/// An answer of a lane that has one, and which lane that is. The only error is out of memory, where none has one.
-fn first_of(_problem: &Problem, found: Found) -> Result<Option<(Answer, Way)>, AllocError>
-    requires searched { IfOk found.searched (λ answer. IfSome answer (IsRight _problem.now)) }
-    requires learned { IfOk found.learned (λ answer. IfSome answer (IsRight _problem.now)) }
-    requires ran { IfSome found.ran (λ won. IsRight _problem.now won.0) }
-    ensures { IfOk result (λ found. IfSome found (λ won. IsRight _problem.now won.0)) }
+/// An answer of a lane that has one. The only error is out of memory, where none has one.
+fn first_of(_problem: &Problem, found: Found) -> Result<Option<Won>, AllocError>
+    requires searched { IfOk found.searched (λ won. IfSome won (IsWonOf _problem.now)) }
+    requires learned { IfOk found.learned (λ won. IfSome won (IsWonOf _problem.now)) }
+    requires ran { IfSome found.ran (IsWonOf _problem.now) }
+    ensures { IfOk result (λ found. IfSome found (IsWonOf _problem.now)) }
 {
-    match (found.searched, found.learned, found.ran) {
-        (Ok(Some(answer)), _, _) => Ok(Some((answer, Way::Search))),
-        (_, Ok(Some(answer)), _) => Ok(Some((answer, Way::Learning))),
+    let Found {
+        searched,
+        learned,
+        ran,
+    } = found;
+    match (searched, learned, ran) {
+        (Ok(Some(won)), _, _) => Ok(Some(won)),
+        (_, Ok(Some(won)), _) => Ok(Some(won)),
         (_, _, Some(won)) => Ok(Some(won)),
         (Ok(None), Ok(None), None) => Ok(None),
         (Err(fault), _, _) | (_, Err(fault), _) => Err(fault),
@@ -79,9 +87,9 @@ fn run_and_search<V: EndWatch, R: Threads + Wait + Clock + Sync>(
     problem: &Problem,
     race: &Race,
     inner: &mut V,
-) -> (Option<(Answer, Way)>, Result<Option<Answer>, AllocError>)
-    ensures ran { IfSome result.0 (λ won. IsRight problem.now won.0) }
-    ensures searched { IfOk result.1 (λ found. IfSome found (IsRight problem.now)) }
+) -> (Option<Won>, Result<Option<Won>, AllocError>)
+    ensures ran { IfSome result.0 (IsWonOf problem.now) }
+    ensures searched { IfOk result.1 (λ found. IfSome found (IsWonOf problem.now)) }
 {
     let (rt, alloc, threads) = (task.rt, task.alloc, task.threads);
     let mut run = lane_watch(task, race);
@@ -90,6 +98,7 @@ fn run_and_search<V: EndWatch, R: Threads + Wait + Clock + Sync>(
         race,
         time: task.time,
         inner,
+        states: 0,
     };
     join(
         rt,
@@ -103,8 +112,8 @@ fn raced<V: EndWatch, R: Threads + Wait + Clock + Sync>(
     task: &Task<'_, R>,
     problem: &Problem,
     watch: &mut V,
-) -> Result<Option<(Answer, Way)>, AllocError>
-    ensures { IfOk result (λ found. IfSome found (λ won. IsRight problem.now won.0)) }
+) -> Result<Option<Won>, AllocError>
+    ensures { IfOk result (λ found. IfSome found (IsWonOf problem.now)) }
 {
     let (rt, alloc) = (task.rt, task.alloc);
     let race = Race::new();
@@ -130,32 +139,36 @@ fn decided<V: EndWatch, R: Threads + Wait + Clock + Sync>(
     task: &Task<'_, R>,
     problem: &Problem,
     watch: &mut V,
-) -> Result<Option<Answer>, AllocError>
-    ensures right { IfOk result (λ found. IfSome found (IsRight problem.now)) }
+) -> Result<Option<Won>, AllocError>
+    ensures right { IfOk result (λ found. IfSome found (IsWonOf problem.now)) }
     ensures decides { task.now.time ≡ None → IfOk result (λ found. found ≢ None) }
 {
     let found = raced(task, problem, watch)?;
     watch.end();
-    if let Some((answer, way)) = found {
-        watch.tell(way.line());
-        return Ok(Some(answer));
+    if let Some(won) = found {
+        watch.tell(won.basis.line());
+        return Ok(Some(won));
     }
     match &task.time {
         Some(_) => Ok(None),
         // (without a limit no lane ends before the other has an answer, but no type says so)
-        None => Ok(Some(searched_alone(task, problem)?)),
+        None => Ok(Some(searched_alone(task.alloc, problem)?)),
     }
 }
 
 /// Returns the answer of a search that nothing stops. The only error is out of memory.
-#[tactic(auto, using(crate::proofs::Firsts::first_is_right))]
-fn searched_alone<R: Threads + Wait + Clock + Sync>(
-    task: &Task<'_, R>,
-    problem: &Problem,
-) -> Result<Answer, AllocError>
-    ensures { IfOk result (IsRight problem.now) }
+#[tactic(auto, using(crate::proofs::Firsts::search_is_won))]
+fn searched_alone(alloc: Global, problem: &Problem) -> Result<Won, AllocError>
+    ensures { IfOk result (IsWonOf problem.now) }
 {
-    first_answer(task.rt, task.alloc, problem, &mut Unwatched)
+    let mut watch = CountingWatch { states: 0 };
+    match search_until(alloc, problem, &mut watch)? {
+        Some(answer) => {
+            let basis = Basis::Search(watch.states);
+            Ok(Won { answer, basis })
+        }
+        None => unreachable!(),
+    }
 }
 
 /// Looks for an answer, writes it, or that there is none in the time, and returns the status.
@@ -166,19 +179,21 @@ fn write_decided<V: EndWatch, W: Sink, R: Threads + Wait + Clock + Sync>(
     sink: &mut W,
 ) -> Result<u8, EngineFault>
     requires { W.failed sink.old < 2 ^ 64 - 1 }
-    ensures output { IsOutputOf (AnswerSays task.now.time problem.now) (W.contents sink.old)
-        (W.contents sink.new) result }
+    ensures output { IsOutputOf (AnswerSays task.now.reason task.now.time problem.now)
+        (W.contents sink.old) (W.contents sink.new) result }
     ensures failed { result ≡ Err EngineFault.Write → W.failed sink.old < W.failed sink.new }
 {
     match decided(task, problem, watch) {
-        Ok(answer) => write_published(problem, answer.as_ref(), sink),
+        Ok(won) => write_told(task.alloc, problem, won.as_ref(), task.reason, sink),
         Err(_) => Err(EngineFault::Memory),
     }
 }
 
 /// Reads a problem to its end, and writes an exact cover of it, with the options in the order of the file, or `none`, whichever of three
 /// lanes finds it first: a search that keeps states and looks for a reason; a learner, which begins a tenth of a second later; and,
-/// where more than two threads may work, the workers of a run in memory, which begin then, too. Where the time is limited it may write `no answer`. How far the search has come, and which lane was first, goes to the log.
+/// where more than two threads may work, the workers of a run in memory, which begin then, too. Where the time is limited it may write
+/// `no answer`. If that is asked for, what the answer rests on is written behind it. How far the search has come, and which lane was first,
+/// goes to the log.
 ///
 /// # Errors
 ///
@@ -193,8 +208,8 @@ pub fn answer_engine<S: Source, W: Sink, E: Sink, R: Threads + Wait + Clock + Sy
     requires source { S.failed source.old < 2 ^ 64 - 1 }
     requires sink { W.failed sink.old < 2 ^ 64 - 1 }
     ensures ended { IfSome (S.remaining source.old) (λ text.
-        IsEnded (AnswerSays task.now.time) refuses_none text (W.contents sink.old)
-        (W.contents sink.new) result) }
+        IsEnded (AnswerSays task.now.reason task.now.time) refuses_none text
+        (W.contents sink.old) (W.contents sink.new) result) }
     ensures read { result ≢ Err EngineFault.Read → result ≢ Err EngineFault.Memory →
         IsAtEnd (S.remaining source.new) }
     ensures read_fault { result ≡ Err EngineFault.Read → S.failed source.old < S.failed source.new }

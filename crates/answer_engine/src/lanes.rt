@@ -1,37 +1,95 @@
 //! The lanes of a race: each gives a right answer, or none where another was first or the time is over.
 
 ghost use Rattle.std.specs.Prelude.{◌≤◌, IfOk, IfSome};
-ghost use Rattle.answer_engine.specs.Answers.{IsRight};
+ghost use Rattle.answer_engine.specs.Answers.{IsRight, IsWonOf};
 ghost use Rattle.learner.specs.Found.{IsTrueOf};
 
-use crate::race::{Way, workers_of};
+use crate::basis::{Basis, Won};
+use crate::race::{Race, short_limit, workers_of};
 use crate::race_watches::{LaneWatch, SearchWatch};
+use brancher::Unwatched;
 use cover_problem::{Answer, Problem};
+use cover_reasons::ReasonWatch;
 use learner::{Found, Settings, find_cover};
 use memory_run::run_in_memory;
-use search_engines::{EndWatch, answer_until, is_excluded, search_until};
+use reason_engine::find_cause_until;
+use search_engines::{EndWatch, search_until};
 use std::alloc::{AllocError, Global};
 use std::sync::Wait;
 use std::sync::atomic::AtomicBool;
 use std::thread::Threads;
 use std::time::Clock;
 
-/// The answer of the search that keeps states, and of the reasons that exclude covers where no other lane looks for one. The only error is
-/// out of memory.
-#[tactic(auto, using(crate::proofs::Firsts::first_is_right))]
+/// The answer of the search that keeps states. The only error is out of memory.
+#[tactic(auto, using(crate::proofs::Firsts::search_is_won))]
 fn searched<V: EndWatch, C: Clock>(
     alloc: Global,
     problem: &Problem,
     watch: &mut SearchWatch<'_, '_, '_, V, C>,
+) -> Result<Option<Won>, AllocError>
+    ensures { IfOk result (λ found. IfSome found (IsWonOf problem.now)) }
+{
+    match search_until(alloc, problem, watch)? {
+        Some(answer) => {
+            let basis = Basis::Search(watch.states);
+            Ok(Some(Won { answer, basis }))
+        }
+        None => Ok(None),
+    }
+}
+
+/// The same within the time that a search has before a reason is looked for.
+fn searched_shortly<C: Clock>(
+    clock: &C,
+    race: &Race,
+    alloc: Global,
+    problem: &Problem,
+) -> Result<Option<Won>, AllocError>
+    ensures { IfOk result (λ found. IfSome found (IsWonOf problem.now)) }
+{
+    let inner = &mut Unwatched;
+    let mut short = SearchWatch {
+        clock,
+        race,
+        time: Some(short_limit(clock)),
+        inner,
+        states: 0,
+    };
+    searched(alloc, problem, &mut short)
+}
+
+/// The answer of a short search, of a reason that excludes covers, or of a long search: for a lane beside which no other one looks for a
+/// reason. The only error is out of memory.
+fn searched_or_excluded<V: EndWatch, C: Clock>(
+    alloc: Global,
+    problem: &Problem,
+    watch: &mut SearchWatch<'_, '_, '_, V, C>,
+) -> Result<Option<Won>, AllocError>
+    ensures { IfOk result (λ found. IfSome found (IsWonOf problem.now)) }
+{
+    if let Some(won) = searched_shortly(watch.clock, watch.race, alloc, problem)? {
+        return Ok(Some(won));
+    }
+    if let Some(won) = excluded(alloc, problem, watch) {
+        return Ok(Some(won));
+    }
+    // (from the start once more: what the short search did is a tenth of a second, little beside what may follow)
+    searched(alloc, problem, watch)
+}
+
+/// The answer of the search, with a reason looked for where no other lane does. The only error is out of memory.
+fn searched_by<V: EndWatch, C: Clock>(
+    alloc: Global,
+    problem: &Problem,
+    watch: &mut SearchWatch<'_, '_, '_, V, C>,
     is_alone: bool,
-) -> Result<Option<Answer>, AllocError>
-    ensures { IfOk result (λ found. IfSome found (IsRight problem.now)) }
+) -> Result<Option<Won>, AllocError>
+    ensures { IfOk result (λ found. IfSome found (IsWonOf problem.now)) }
 {
     if is_alone {
-        let clock = watch.clock;
-        answer_until(clock, alloc, problem, watch)
+        searched_or_excluded(alloc, problem, watch)
     } else {
-        search_until(alloc, problem, watch)
+        searched(alloc, problem, watch)
     }
 }
 
@@ -41,12 +99,12 @@ pub(crate) fn search_lane<V: EndWatch, C: Clock>(
     problem: &Problem,
     watch: &mut SearchWatch<'_, '_, '_, V, C>,
     is_alone: bool,
-) -> Result<Option<Answer>, AllocError>
-    ensures { IfOk result (λ found. IfSome found (IsRight problem.now)) }
+) -> Result<Option<Won>, AllocError>
+    ensures { IfOk result (λ found. IfSome found (IsWonOf problem.now)) }
 {
     let race = watch.race;
     race.begin();
-    let found = searched(alloc, problem, watch, is_alone);
+    let found = searched_by(alloc, problem, watch, is_alone);
     // (where it has no answer it was stopped, by another lane's or since the time is over)
     if found.is_ok() {
         race.end();
@@ -67,15 +125,23 @@ fn answer_of(problem: &Problem, found: Found) -> Option<Answer>
 }
 
 /// Looks for a cover by learning. The only error is out of memory.
+#[tactic(auto, using(crate::proofs::Firsts::right_is_won))]
 fn learned<C: Clock>(
     alloc: Global,
     problem: &Problem,
     watch: &mut LaneWatch<'_, '_, C>,
-) -> Result<Option<Answer>, AllocError>
-    ensures { IfOk result (λ found. IfSome found (IsRight problem.now)) }
+) -> Result<Option<Won>, AllocError>
+    ensures { IfOk result (λ found. IfSome found (IsWonOf problem.now)) }
 {
-    let (found, _) = find_cover(alloc, problem, Settings::new(), watch)?;
-    Ok(answer_of(problem, found))
+    let (found, figures) = find_cover(alloc, problem, Settings::new(), watch)?;
+    match answer_of(problem, found) {
+        Some(answer) => {
+            // (each conflict teaches one clause)
+            let basis = Basis::Learning(figures.conflicts);
+            Ok(Some(Won { answer, basis }))
+        }
+        None => Ok(None),
+    }
 }
 
 /// The lane of the learner, which begins a tenth of a second after the search. Where its clauses have no room left it ends without an
@@ -85,8 +151,8 @@ pub(crate) fn learner_lane<R: Wait + Clock>(
     alloc: Global,
     problem: &Problem,
     watch: &mut LaneWatch<'_, '_, R>,
-) -> Result<Option<Answer>, AllocError>
-    ensures { IfOk result (λ found. IfSome found (IsRight problem.now)) }
+) -> Result<Option<Won>, AllocError>
+    ensures { IfOk result (λ found. IfSome found (IsWonOf problem.now)) }
 {
     let race = watch.race;
     if !race.begins_learning(rt) {
@@ -99,58 +165,60 @@ pub(crate) fn learner_lane<R: Wait + Clock>(
     found
 }
 
-/// That there is no cover, where a reason is found.
-#[tactic(auto, using(crate::proofs::Firsts::none_is_right))]
-fn excluded<C: Clock>(
-    alloc: Global,
-    problem: &Problem,
-    watch: &mut LaneWatch<'_, '_, C>,
-) -> Option<Answer>
-    ensures { IfSome result (IsRight problem.now) }
+/// That there is no cover, where a reason is found before the watch ends that. Where memory runs out none is found, and that is no error: a
+/// search may need less.
+#[tactic(auto, using(crate::proofs::Firsts::cause_is_won))]
+fn excluded<W: ReasonWatch>(alloc: Global, problem: &Problem, watch: &mut W) -> Option<Won>
+    ensures { IfSome result (IsWonOf problem.now) }
 {
-    if is_excluded(alloc, problem, watch) {
-        return Some(Answer::NoCover);
+    match find_cause_until(alloc, problem, watch) {
+        Ok(Some(cause)) => Some(Won {
+            answer: Answer::NoCover,
+            basis: Basis::Reason(cause),
+        }),
+        Ok(None) | Err(_) => None,
     }
-    None
 }
 
 /// The answer of a run of so many workers, if it has one.
-#[tactic(auto, using(crate::proofs::Firsts::settled_is_right))]
+#[tactic(auto, using(crate::proofs::Firsts::settled_is_won))]
 fn ran<R: Threads + Wait + Clock + Sync>(
     rt: &R,
     alloc: Global,
     problem: &Problem,
     workers: u8,
     over: &AtomicBool,
-) -> Option<Answer>
+) -> Option<Won>
     requires some { 1 ≤ workers }
     requires most { workers ≤ 8 }
-    ensures { IfSome result (IsRight problem.now) }
+    ensures { IfSome result (IsWonOf problem.now) }
 {
     match run_in_memory(rt, alloc, problem, workers, over) {
-        Ok(found) => found,
+        Ok(Some(answer)) => Some(Won {
+            answer,
+            basis: Basis::Run(u64::from(workers)),
+        }),
         // (where memory runs out for it, the other lanes may go on)
-        Err(_) => None,
+        Ok(None) | Err(_) => None,
     }
 }
 
-/// What a reason says, or else a run of so many workers, and which of them.
+/// What a reason says, or else a run of so many workers.
 fn excluded_or_ran<R: Threads + Wait + Clock + Sync>(
     rt: &R,
     alloc: Global,
     problem: &Problem,
     workers: u8,
     watch: &mut LaneWatch<'_, '_, R>,
-) -> Option<(Answer, Way)>
+) -> Option<Won>
     requires some { 1 ≤ workers }
     requires most { workers ≤ 8 }
-    ensures { IfSome result (λ won. IsRight problem.now won.0) }
+    ensures { IfSome result (IsWonOf problem.now) }
 {
-    if let Some(answer) = excluded(alloc, problem, watch) {
-        return Some((answer, Way::Reason));
+    if let Some(won) = excluded(alloc, problem, watch) {
+        return Some(won);
     }
-    let answer = ran(rt, alloc, problem, workers, watch.race.over())?;
-    Some((answer, Way::Run))
+    ran(rt, alloc, problem, workers, watch.race.over())
 }
 
 /// The lane of a reason and then of a run in memory, which begins a tenth of a second after the search, if so many threads are more than the
@@ -161,8 +229,8 @@ pub(crate) fn run_lane<R: Threads + Wait + Clock + Sync>(
     problem: &Problem,
     threads: u64,
     watch: &mut LaneWatch<'_, '_, R>,
-) -> Option<(Answer, Way)>
-    ensures { IfSome result (λ won. IsRight problem.now won.0) }
+) -> Option<Won>
+    ensures { IfSome result (IsWonOf problem.now) }
 {
     let race = watch.race;
     let workers = workers_of(threads);

@@ -2,9 +2,11 @@
 #![tactic(auto)]
 
 mod answer;
+mod basis;
 mod lanes;
 mod race;
 mod race_watches;
+mod telling;
 
 pub use answer::{AnswerEnd, Task, answer_engine};
-pub use race::Way;
+pub use basis::{Basis, Won};

@@ -2,10 +2,11 @@
 
 ghost use Rattle.std.specs.Prelude.{◌≤◌};
 
+use search_engines::TimeLimit;
 use std::sync::Wait;
 use std::sync::atomic::{AtomicBool, Ordering};
 use std::thread::Parker;
-use std::time::Duration;
+use std::time::{Clock, Duration};
 
 /// How many milliseconds the search is alone: what it decides in them needs no second thread at work.
 const ALONE: u64 = 100;
@@ -16,36 +17,16 @@ const LANES: u64 = 2;
 /// How many workers a node has at most.
 const MOST_WORKERS: u64 = 8;
 
-/// What found an answer.
-#[derive(Clone, Copy, Debug, PartialEq, Eq)]
-pub enum Way {
-    /// A search that keeps states, or where two threads work a reason that excludes covers, too.
-    Search,
-    /// A reason that excludes covers, where a thread of its own looks for it.
-    Reason,
-    /// A learner.
-    Learning,
-    /// The workers of a run in memory.
-    Run,
-}
-
-impl Way {
-    /// The line that says so.
-    pub fn line(self) -> &'static str {
-        match self {
-            Way::Search => "answered by the search",
-            Way::Reason => "answered by a reason",
-            Way::Learning => "answered by learning",
-            Way::Run => "answered by workers",
-        }
-    }
-}
-
 /// How many workers the third lane has where so many threads may work; none where the first two need all.
 pub(crate) fn workers_of(threads: u64) -> u8
     ensures { result ≤ 8 }
 {
     threads.saturating_sub(LANES).min(MOST_WORKERS) as u8
+}
+
+/// The limit of a search that begins now and is over when further lanes begin.
+pub(crate) fn short_limit<C: Clock>(clock: &C) -> TimeLimit {
+    TimeLimit::from_now(clock, Duration::from_millis(ALONE))
 }
 
 /// What the lanes of a race tell each other. No answer depends on it: it says when the others begin, and when all end.

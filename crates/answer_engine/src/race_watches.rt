@@ -2,6 +2,7 @@
 
 use crate::race::Race;
 use brancher::Watch;
+use cover_reasons::ReasonWatch;
 use learner::{Figures, LearnerWatch};
 use search_engines::{EndWatch, TimeLimit};
 use std::time::Clock;
@@ -22,12 +23,8 @@ pub(crate) struct LaneWatch<'a, 'b, C: Clock> {
     pub(crate) time: Option<TimeLimit>,
 }
 
-impl<'a, 'b, C: Clock> Watch for LaneWatch<'a, 'b, C> {
-    ghost use Rattle.std.specs.Prelude.{true};
-
-    ghost may_stop = { true };
-
-    fn look(&mut self, _chosen: &[u16], _left: u64) -> bool {
+impl<'a, 'b, C: Clock> ReasonWatch for LaneWatch<'a, 'b, C> {
+    fn look(&mut self) -> bool {
         is_over(self.clock, self.race, &self.time)
     }
 }
@@ -38,13 +35,14 @@ impl<'a, 'b, C: Clock> LearnerWatch for LaneWatch<'a, 'b, C> {
     }
 }
 
-/// Stops the search, and does what another watch does.
+/// Stops the search, counts the states that it comes to, and does what another watch does.
 #[derive(Drop)]
 pub(crate) struct SearchWatch<'a, 'b, 'c, V: EndWatch, C: Clock> {
     pub(crate) clock: &'a C,
     pub(crate) race: &'b Race,
     pub(crate) time: Option<TimeLimit>,
     pub(crate) inner: &'c mut V,
+    pub(crate) states: u64,
 }
 
 impl<'a, 'b, 'c, V: EndWatch, C: Clock> Watch for SearchWatch<'a, 'b, 'c, V, C> {
@@ -59,6 +57,35 @@ impl<'a, 'b, 'c, V: EndWatch, C: Clock> Watch for SearchWatch<'a, 'b, 'c, V, C> 
 
     #[inline(always)]
     fn made(&mut self, visits: u64, left: u64) {
+        self.states = self.states.saturating_add(visits);
         self.inner.made(visits, left);
+    }
+}
+
+impl<'a, 'b, 'c, V: EndWatch, C: Clock> ReasonWatch for SearchWatch<'a, 'b, 'c, V, C> {
+    fn look(&mut self) -> bool {
+        // (while a reason is looked for no option is chosen)
+        self.inner.look(&[], u64::MAX) || is_over(self.clock, self.race, &self.time)
+    }
+}
+
+/// Counts the states that a search comes to, and stops nothing.
+#[derive(Drop)]
+pub(crate) struct CountingWatch {
+    pub(crate) states: u64,
+}
+
+impl Watch for CountingWatch {
+    ghost use Rattle.std.specs.Prelude.{false};
+
+    ghost may_stop = { false };
+
+    fn look(&mut self, _chosen: &[u16], _left: u64) -> bool {
+        false
+    }
+
+    #[inline(always)]
+    fn made(&mut self, visits: u64, _left: u64) {
+        self.states = self.states.saturating_add(visits);
     }
 }

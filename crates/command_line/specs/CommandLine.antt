@@ -56,10 +56,15 @@ abbrev pub check_app : App
 check_app =
     timed (with_rule (with_rule (with_rule (with_rule (versioned (new_app (codes "check"))) (file_rule (codes "file"))) (file_rule (codes "answer"))) greatest_fuel_rule) (flag_rule (codes "unlimited")))
 
--- to which file an answer is looked for, whether it writes how far that has come, by how many threads, and when it ends
+-- whether what an answer rests on is written behind it
+abbrev pub reasoned : App → App
+reasoned app = with_rule app (flag_rule (codes "reason"))
+
+-- to which file an answer is looked for, whether it writes how far that has come, by how many threads, when it ends, and whether it says what
+-- the answer rests on
 abbrev pub answer_app : App
 answer_app =
-    timed (with_rule (with_rule (with_rule (versioned (new_app (codes "answer"))) (file_rule (codes "file"))) (flag_rule (codes "progress"))) (limit_rule (codes "threads")))
+    reasoned (timed (with_rule (with_rule (with_rule (versioned (new_app (codes "answer"))) (file_rule (codes "file"))) (flag_rule (codes "progress"))) (limit_rule (codes "threads"))))
 
 -- of which file a reason is looked for
 abbrev pub why_app : App
@@ -166,6 +171,7 @@ pub record IsSpelled (name : Text) (given : Text → Option Text) (request : Req
   pub progress_given : IsFlag (given (codes "progress")) request.progress
   pub unlimited_given : IsFlag (given (codes "unlimited")) request.unlimited
   pub threads_given : SpellsIf (given (codes "threads")) request.threads
+  pub reason_given : IsFlag (given (codes "reason")) request.reason
   pub certificate_given : option_map (λ certificate. certificate.now) request.certificate ≡ given (codes "certificate")
 
 -- The problem and the answer are both to be read from standard input.

@@ -155,6 +155,18 @@ fn certificate_argument<'a>(alloc: Global) -> Arg<'a>
     )
 }
 
+/// Whether what an answer rests on is written behind it.
+fn reason_argument<'a>(alloc: Global) -> Arg<'a>
+    ensures rule { rule_of result ≡ flag_rule (codes "reason") }
+    ensures own { result.global ≡ false }
+{
+    flag_argument(
+        alloc,
+        "reason",
+        "Writes behind the answer what it rests on: a reason, or how much was searched or learned",
+    )
+}
+
 fn alone_command<'a>(alloc: Global) -> Result<Command<'a>, AllocError>
     ensures app { IfOk result (λ command. app_of command ≡ alone_app) }
     ensures local { IfOk result (λ command. (out-Command command).has_globals ≡ false) }
@@ -187,7 +199,8 @@ fn answer_command<'a>(alloc: Global) -> Result<Command<'a>, AllocError>
     let command = described(alloc, "answer", about).after_help(SEARCH_STATUSES);
     let command = with_two(command, file_argument(alloc), progress_argument(alloc))?;
     let threads = limit_argument(alloc, "threads", THREADS_HELP);
-    with_two(command, threads, time_argument(alloc))
+    let command = with_two(command, threads, time_argument(alloc))?;
+    command.arg(reason_argument(alloc))
 }
 
 fn why_command<'a>(alloc: Global) -> Result<Command<'a>, AllocError>

@@ -113,6 +113,7 @@ fn requested<'a>(name: &'a str, inner: &ArgMatches<'a>) -> Option<Request<'a>>
         progress: is_set(inner, "progress"),
         unlimited: is_set(inner, "unlimited"),
         threads: threads(inner)?,
+        reason: is_set(inner, "reason"),
         certificate: inner.get_str("certificate"),
     })
 }

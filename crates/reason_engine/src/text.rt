@@ -1,6 +1,6 @@
 //! The text of a reason.
 
-ghost use Rattle.std.specs.Prelude.{◌≡◌, ◌<◌, [], ◌∷◌, ◌++◌, length, IfOk, OnOk};
+ghost use Rattle.std.specs.Prelude.{◌≡◌, ◌<◌, [], ◌∷◌, ◌++◌, length, codes, IfOk, OnOk};
 ghost use Rattle.std.specs.Fmt.{decimal};
 ghost use Rattle.cover_reasons.specs.Room.{amount_of};
 ghost use Rattle.dlx_reader.specs.Writing.{name_text};
@@ -10,6 +10,7 @@ use cover_problem::Problem;
 use cover_reasons::{Reason, Room, Weights};
 use itoa::Buffer;
 use std::alloc::{AllocError, Global};
+use used_items::WithUsedItems;
 
 /// Adds two pieces to a text.
 fn push_two(text: &mut Vec<u8>, first: &[u8], second: &[u8]) -> Result<(), AllocError>
@@ -161,5 +162,30 @@ pub fn promoted_text_of(
     let mut text = Vec::from_slice(alloc, b"none\njust enough room\n")?;
     push_room(&mut text, problem, room)?;
     push_reason(&mut text, made, reason)?;
+    Ok(text)
+}
+
+/// Returns the lines of a reason alone. The only error is out of memory.
+pub fn lines_of(alloc: Global, problem: &Problem, reason: &Reason) -> Result<Vec<u8>, AllocError>
+    ensures { IfOk result (λ text. text.items ≡ kind_text problem.now reason.now) }
+{
+    let mut text = Vec::new(alloc);
+    push_reason(&mut text, problem, reason)?;
+    Ok(text)
+}
+
+/// Returns the lines of room that is just enough, and of a reason of the problem that was made by it. The only error is out of memory.
+pub fn promoted_lines_of(
+    alloc: Global,
+    problem: &Problem,
+    made: &WithUsedItems,
+    reason: &Reason,
+) -> Result<Vec<u8>, AllocError>
+    ensures { IfOk result (λ text. text.items ≡ codes "just enough room\n"
+        ++ room_text problem.now made.now.room ++ kind_text made.now.problem reason.now) }
+{
+    let mut text = Vec::from_slice(alloc, b"just enough room\n")?;
+    push_room(&mut text, problem, &made.room)?;
+    push_reason(&mut text, &made.problem, reason)?;
     Ok(text)
 }

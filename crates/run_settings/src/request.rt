@@ -18,6 +18,8 @@ pub struct Request<'a> {
     pub unlimited: bool,
     /// How many threads may look for an answer by whatever is first, from 2 to 10; none for as many as there are processors.
     pub threads: Option<u32>,
+    /// Whether what an answer rests on is written behind it.
+    pub reason: bool,
     /// The file that is to get a certificate, if one is asked for, that there is no exact cover.
     pub certificate: Option<&'a str>,
     pub ghost some_seconds: { ForSome seconds (λ seconds. 1 ≤ seconds) },

@@ -155,6 +155,7 @@ fn run_answer<R: Threads + Wait + Clock + Sync>(
         alloc: rt.alloc(),
         time: limits.time,
         threads: threads_of(threads, request),
+        reason: request.reason,
     };
     let mut sink = CountedWriter::new(rt.stdout());
     let log = ProgressLog::new(&mut errors, line_style(rt, request.progress));

@@ -159,6 +159,7 @@ fn solve<R: Threads + Wait + Clock + Net + RandomSource + Sync>(
         progress: false,
         unlimited: false,
         threads: None,
+        reason: false,
         certificate: None,
     };
     let Solved {
@@ -247,6 +248,7 @@ fn a_run_in_which_states_repeat_ends(rt: HostRuntime) {
         progress: false,
         unlimited: false,
         threads: None,
+        reason: false,
         certificate: None,
     };
     let network = Loopback {

@@ -230,6 +230,23 @@ fn reads_how_many_threads_may_work(rt: HostRuntime) {
     }
 }
 
+/// Words that ask what an answer rests on, or don't.
+static REASONS: [(&[&str], bool); 4] = [
+    (&["solve_cli", "answer", "a.dlx"], false),
+    (&["solve_cli", "answer", "a.dlx", "--reason"], true),
+    (&["solve_cli", "answer", "--", "--reason"], false),
+    (&["solve_cli", "alone", "a.dlx"], false),
+];
+
+#[test]
+fn reads_whether_to_say_what_an_answer_rests_on(rt: HostRuntime) {
+    for (words, reason) in REASONS.iter() {
+        let request = request(rt.alloc(), words).expect(&rt, "lawful words");
+        assert!(rt; request.reason == *reason);
+    }
+    assert!(rt; status_of(rt.alloc(), &["solve_cli", "alone", "a.dlx", "--reason"]) == 2);
+}
+
 /// Words that name a file for a certificate, or don't.
 static CERTIFICATES: [(&[&str], Option<&str>); 5] = [
     (&["solve_cli", "learn", "a.dlx"], None),

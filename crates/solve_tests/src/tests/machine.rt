@@ -174,6 +174,7 @@ fn request(audit: bool) -> Request<'static> {
         progress: false,
         unlimited: false,
         threads: None,
+        reason: false,
         certificate: None,
     }
 }
@@ -210,6 +211,7 @@ fn a_limit_is_counted_in_seconds(rt: HostRuntime) -> Result<(), Fail> {
         progress: true,
         unlimited: false,
         threads: None,
+        reason: false,
         certificate: None,
     };
     let wrong = Wrong::Mute;

@@ -47,6 +47,7 @@ returns-clause-met c =
         progress_given = subst (λ (value : Option Text). IsFlag value r.progress) (first_value-rows f (codes "progress")) asked.progress_given;
         unlimited_given = subst (λ (value : Option Text). IsFlag value r.unlimited) (first_value-rows f (codes "unlimited")) asked.unlimited_given;
         threads_given = subst (λ (value : Option Text). SpellsIf value r.threads) (first_value-rows f (codes "threads")) asked.threads_given;
+        reason_given = subst (λ (value : Option Text). IsFlag value r.reason) (first_value-rows f (codes "reason")) asked.reason_given;
         certificate_given = asked.certificate_given ∙ first_value-rows f (codes "certificate");
       };
     }

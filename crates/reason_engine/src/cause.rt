@@ -1,0 +1,83 @@
+//! Why a problem has no exact cover: a reason of it as it stands, or with those items primary that each exact cover uses.
+
+ghost use Rattle.std.specs.Prelude.{◌≡◌, [], IfOk, IfSome};
+ghost use Rattle.cover_problem.specs.Prefix.{IsBarren};
+ghost use Rattle.reason_engine.specs.Causes.{IsCause, cause_text};
+ghost use Rattle.used_items.specs.Orders.{IsPromoted};
+
+use crate::text::{lines_of, promoted_lines_of};
+use cover_problem::Problem;
+use cover_reasons::{Reason, ReasonWatch, find_reason_until};
+use std::alloc::{AllocError, Global};
+use used_items::{WithUsedItems, with_used_items};
+
+/// Why a problem has no exact cover.
+#[derive(Drop)]
+pub enum Cause {
+    /// A reason of the problem as it stands.
+    AsItStands(Reason),
+    /// A reason of the problem with more items primary, and the room by which these are.
+    ByUsedItems(WithUsedItems, Reason),
+}
+
+/// A cause by the problem that was made with more items primary, if a reason of that is found before the watch ends it. The only error is out
+/// of memory.
+fn cause_by_use<W: ReasonWatch>(
+    alloc: Global,
+    _problem: &Problem,
+    made: WithUsedItems,
+    watch: &mut W,
+) -> Result<Option<Cause>, AllocError>
+    requires { IsPromoted _problem.now made.room made.problem }
+    ensures cause { IfOk result (λ found. IfSome found (IsCause _problem.now)) }
+    ensures barren { IfOk result (λ found. IfSome found (λ cause. IsBarren _problem.now [])) }
+{
+    match find_reason_until(alloc, &made.problem, watch)? {
+        Some(reason) => Ok(Some(Cause::ByUsedItems(made, reason))),
+        None => Ok(None),
+    }
+}
+
+/// The same where such items are found.
+fn cause_by_used_items<W: ReasonWatch>(
+    alloc: Global,
+    problem: &Problem,
+    watch: &mut W,
+) -> Result<Option<Cause>, AllocError>
+    ensures cause { IfOk result (λ found. IfSome found (IsCause problem.now)) }
+    ensures barren { IfOk result (λ found. IfSome found (λ cause. IsBarren problem.now [])) }
+{
+    if watch.look() {
+        return Ok(None);
+    }
+    match with_used_items(alloc, problem)? {
+        Some(made) => cause_by_use(alloc, problem, made, watch),
+        None => Ok(None),
+    }
+}
+
+/// Why the problem has no exact cover, as it stands or with those items primary that each exact cover uses, if a reason is found before the
+/// watch ends that. Where none is found there may be a cover or none. The only error is out of memory.
+pub fn find_cause_until<W: ReasonWatch>(
+    alloc: Global,
+    problem: &Problem,
+    watch: &mut W,
+) -> Result<Option<Cause>, AllocError>
+    ensures cause { IfOk result (λ found. IfSome found (IsCause problem.now)) }
+    ensures barren { IfOk result (λ found. IfSome found (λ cause. IsBarren problem.now [])) }
+{
+    match find_reason_until(alloc, problem, watch)? {
+        Some(reason) => Ok(Some(Cause::AsItStands(reason))),
+        None => cause_by_used_items(alloc, problem, watch),
+    }
+}
+
+/// Returns the lines that `why` writes of a cause behind `none`. The only error is out of memory.
+pub fn cause_lines(alloc: Global, problem: &Problem, cause: &Cause) -> Result<Vec<u8>, AllocError>
+    ensures { IfOk result (λ text. text.items ≡ cause_text problem.now cause.now) }
+{
+    match cause {
+        Cause::AsItStands(reason) => lines_of(alloc, problem, reason),
+        Cause::ByUsedItems(made, reason) => promoted_lines_of(alloc, problem, made, reason),
+    }
+}
