@@ -16,6 +16,3 @@ output_of may what old new (Err faults.Read) allowed output = output
 output_of may what old new (Err (faults.File fault)) allowed output = output
 output_of may what old new (Err (faults.Answer fault)) allowed output = output
 
--- what has no exact cover with more items primary has none
-pub barren_too : (problem : Problem) (room : Room) (made : Problem) → IsPromoted problem room made → IsBarren made [] → IsBarren problem []
-barren_too problem room made promoted barren = λ chosen cover over. barren chosen (promoted.covers.there chosen cover) refl

@@ -1,5 +1,4 @@
--- The text of a reason: its kind, and a line for each item that counts; before it those of room that is just enough, if the reason is one of
--- the problem with more items primary.
+-- The lines of a reason: its kind, and a line for each item that counts.
 use Rattle.std.specs.Prelude.{ℕ, List, [], ◌∷◌, ◌++◌, length, codes, ◌==◌, if◌then◌else◌}
 use Rattle.std.specs.Fmt.{decimal}
 use Rattle.std.specs.List.{flat_map, range_with_len}
@@ -26,11 +25,3 @@ room_text problem room = lines_text problem (codes "need") room.needs ++ lines_t
 abbrev pub kind_text : Problem → Reason → List ℕ
 kind_text problem (reasons.Weighed weights) = codes "weights modulo" ++ 32 ∷ decimal weights.modulus ++ codes "\n" ++ lines_text problem (codes "weigh") weights.list
 kind_text problem (reasons.TooLittleRoom room) = codes "too little room\n" ++ room_text problem room
-
--- that there is no cover, and the reason
-abbrev pub reason_text : Problem → Reason → List ℕ
-reason_text problem reason = codes "none\n" ++ kind_text problem reason
-
--- that there is no cover, the room that is just enough, and the reason of the problem that was made by it
-abbrev pub promoted_text : Problem → Room → Problem → Reason → List ℕ
-promoted_text problem room made reason = codes "none\njust enough room\n" ++ room_text problem room ++ kind_text made reason

@@ -1,6 +1,6 @@
 //! Why a problem has no exact cover: a reason of it as it stands, or with those items primary that each exact cover uses.
 
-ghost use Rattle.std.specs.Prelude.{◌≡◌, [], IfOk, IfSome};
+ghost use Rattle.std.specs.Prelude.{◌≡◌, [], ◌++◌, codes, IfOk, IfSome};
 ghost use Rattle.cover_problem.specs.Prefix.{IsBarren};
 ghost use Rattle.reason_engine.specs.Causes.{IsCause, cause_text};
 ghost use Rattle.used_items.specs.Orders.{IsPromoted};
@@ -72,7 +72,7 @@ pub fn find_cause_until<W: ReasonWatch>(
     }
 }
 
-/// Returns the lines that `why` writes of a cause behind `none`. The only error is out of memory.
+/// Returns the lines of a cause. The only error is out of memory.
 pub fn cause_lines(alloc: Global, problem: &Problem, cause: &Cause) -> Result<Vec<u8>, AllocError>
     ensures { IfOk result (λ text. text.items ≡ cause_text problem.now cause.now) }
 {
@@ -80,4 +80,18 @@ pub fn cause_lines(alloc: Global, problem: &Problem, cause: &Cause) -> Result<Ve
         Cause::AsItStands(reason) => lines_of(alloc, problem, reason),
         Cause::ByUsedItems(made, reason) => promoted_lines_of(alloc, problem, made, reason),
     }
+}
+
+/// Returns that there is no cover, and the lines of a cause. The only error is out of memory.
+pub(crate) fn text_of(
+    alloc: Global,
+    problem: &Problem,
+    cause: &Cause,
+) -> Result<Vec<u8>, AllocError>
+    ensures { IfOk result (λ text. text.items ≡ codes "none\n" ++ cause_text problem.now cause.now) }
+{
+    let lines = cause_lines(alloc, problem, cause)?;
+    let mut text = Vec::from_slice(alloc, b"none\n")?;
+    text.extend_from_slice(&lines)?;
+    Ok(text)
 }

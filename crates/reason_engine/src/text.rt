@@ -4,7 +4,7 @@ ghost use Rattle.std.specs.Prelude.{◌≡◌, ◌<◌, [], ◌∷◌, ◌++◌,
 ghost use Rattle.std.specs.Fmt.{decimal};
 ghost use Rattle.cover_reasons.specs.Room.{amount_of};
 ghost use Rattle.dlx_reader.specs.Writing.{name_text};
-ghost use Rattle.reason_engine.specs.ReasonText.{line_text, lines_text, room_text, kind_text, reason_text, promoted_text};
+ghost use Rattle.reason_engine.specs.ReasonText.{line_text, lines_text, room_text, kind_text};
 
 use cover_problem::Problem;
 use cover_reasons::{Reason, Room, Weights};
@@ -137,32 +137,6 @@ fn push_reason(text: &mut Vec<u8>, problem: &Problem, reason: &Reason) -> Result
         Reason::Weighed(weights) => push_weights(text, problem, weights),
         Reason::TooLittleRoom(room) => push_lack(text, problem, room),
     }
-}
-
-/// Returns the text of a reason. The only error is out of memory.
-pub fn text_of(alloc: Global, problem: &Problem, reason: &Reason) -> Result<Vec<u8>, AllocError>
-    ensures { IfOk result (λ text. text.items ≡ reason_text problem.now reason.now) }
-{
-    let mut text = Vec::from_slice(alloc, b"none\n")?;
-    push_reason(&mut text, problem, reason)?;
-    Ok(text)
-}
-
-/// Returns the text of room that is just enough, and of a reason of the problem that was made by it. The only error is out of memory.
-pub fn promoted_text_of(
-    alloc: Global,
-    problem: &Problem,
-    room: &Room,
-    made: &Problem,
-    reason: &Reason,
-) -> Result<Vec<u8>, AllocError>
-    ensures { IfOk result (λ text. text.items
-        ≡ promoted_text problem.now room.now made.now reason.now) }
-{
-    let mut text = Vec::from_slice(alloc, b"none\njust enough room\n")?;
-    push_room(&mut text, problem, room)?;
-    push_reason(&mut text, made, reason)?;
-    Ok(text)
 }
 
 /// Returns the lines of a reason alone. The only error is out of memory.

@@ -1,63 +1,38 @@
 //! `why`: a reason why a file's problem has no exact cover.
 
-ghost use Rattle.std.specs.Prelude.{◌≡◌, ◌≢◌, ◌-◌, ◌<◌, ◌^◌, [], true, Some, None, IfSome};
+ghost use Rattle.std.specs.Prelude.{◌≡◌, ◌≢◌, ◌-◌, ◌<◌, ◌^◌, Some, IfSome};
 ghost use Rattle.std.specs.Io.KnownBytes.{IsAtEnd};
-ghost use Rattle.cover_problem.specs.Prefix.{IsBarren};
-ghost use Rattle.cover_reasons.specs.Reasons.{holds_of};
-ghost use Rattle.reason_engine.specs.Why.{WhySays, why_said, AsItStands, ByUsedItems};
+ghost use Rattle.reason_engine.specs.Why.{WhySays, why_said};
 ghost use Rattle.search_engines.specs.Engines.{IsEnded, refuses_none};
 ghost use Rattle.search_engines.specs.Output.{IsOutput, IsOutputOf};
-ghost use Rattle.used_items.specs.Orders.{IsPromoted};
 
-use crate::text::{promoted_text_of, text_of};
+use crate::cause::{Cause, find_cause_until, text_of};
 use cover_problem::Problem;
-use cover_reasons::{Reason, Room, find_reason};
+use cover_reasons::Endless;
 use dlx_reader::{Sink, Source};
 use search_engines::{EngineEnd, EngineFault, problem_of, read_all, write_line};
 use std::alloc::Global;
-use used_items::with_used_items;
 
 /// How a run of `why` ended: with status 1 where a reason was written, 4 where none was found.
 pub type WhyEnd = EngineEnd;
 
-/// Writes a reason, and returns the status.
-fn write_reason<W: Sink>(
+/// Writes a cause, and returns the status.
+fn write_cause<W: Sink>(
     alloc: Global,
     problem: &Problem,
-    reason: &Reason,
+    cause: &Cause,
     sink: &mut W,
 ) -> Result<u8, EngineFault>
     requires { W.failed sink.old < 2 ^ 64 - 1 }
-    ensures output { IsOutput (why_said problem.now (Some (AsItStands reason.now))) (W.contents sink.old)
+    ensures output { IsOutput (why_said problem.now (Some cause.now)) (W.contents sink.old)
         (W.contents sink.new) result }
     ensures failed { result ≡ Err EngineFault.Write → W.failed sink.old < W.failed sink.new }
 {
     // (the whole text before its first byte is written, so that nothing is written if memory runs out)
-    let Ok(text) = text_of(alloc, problem, reason) else {
+    let Ok(text) = text_of(alloc, problem, cause) else {
         return Err(EngineFault::Memory);
     };
     write_line(&text, 1, sink)
-}
-
-/// Writes room that is just enough and a reason of the problem that was made by it, and returns the status.
-fn write_promoted<W: Sink>(
-    alloc: Global,
-    problem: &Problem,
-    room: &Room,
-    made: &Problem,
-    reason: &Reason,
-    sink: &mut W,
-) -> Result<u8, EngineFault>
-    requires { W.failed sink.old < 2 ^ 64 - 1 }
-    ensures output { IsOutput
-        (why_said problem.now (Some (ByUsedItems room.now made.now reason.now)))
-        (W.contents sink.old) (W.contents sink.new) result }
-    ensures failed { result ≡ Err EngineFault.Write → W.failed sink.old < W.failed sink.new }
-{
-    let Ok(lines) = promoted_text_of(alloc, problem, room, made, reason) else {
-        return Err(EngineFault::Memory);
-    };
-    write_line(&lines, 1, sink)
 }
 
 /// Writes that no reason was found, and returns the status.
@@ -70,56 +45,16 @@ fn write_none_found<W: Sink>(_problem: &Problem, sink: &mut W) -> Result<u8, Eng
     write_line(b"no reason found\n", 4, sink)
 }
 
-/// Looks for a reason of the problem that was made by room which is just enough, writes it, or that none was found, and returns the status.
-fn write_why_made<W: Sink>(
-    alloc: Global,
-    problem: &Problem,
-    room: &Room,
-    made: &Problem,
-    sink: &mut W,
-) -> Result<u8, EngineFault>
-    requires promoted { IsPromoted problem.now room.now made.now }
-    requires sink { W.failed sink.old < 2 ^ 64 - 1 }
-    ensures output { IsOutputOf (WhySays problem.now) (W.contents sink.old)
-        (W.contents sink.new) result }
-    ensures failed { result ≡ Err EngineFault.Write → W.failed sink.old < W.failed sink.new }
-{
-    match find_reason(alloc, made) {
-        Ok(Some(reason)) => write_promoted(alloc, problem, room, made, &reason, sink),
-        Ok(None) => write_none_found(problem, sink),
-        Err(_) => Err(EngineFault::Memory),
-    }
-}
-
-/// Makes those items primary that each exact cover uses, and does the same with that problem.
-fn write_why_used<W: Sink>(
-    alloc: Global,
-    problem: &Problem,
-    sink: &mut W,
-) -> Result<u8, EngineFault>
-    requires { W.failed sink.old < 2 ^ 64 - 1 }
-    ensures output { IsOutputOf (WhySays problem.now) (W.contents sink.old)
-        (W.contents sink.new) result }
-    ensures failed { result ≡ Err EngineFault.Write → W.failed sink.old < W.failed sink.new }
-{
-    match with_used_items(alloc, problem) {
-        Ok(Some(made)) => write_why_made(alloc, problem, &made.room, &made.problem, sink),
-        Ok(None) => write_none_found(problem, sink),
-        Err(_) => Err(EngineFault::Memory),
-    }
-}
-
-/// Looks for a reason why the problem has no exact cover, as it stands or with those items primary that each exact cover uses, writes it, or
-/// that none was found, and returns the status.
+/// Looks for a reason why the problem has no exact cover, as [`find_cause_until`] does, writes it, or that none was found, and returns the status.
 fn write_why<W: Sink>(alloc: Global, problem: &Problem, sink: &mut W) -> Result<u8, EngineFault>
     requires { W.failed sink.old < 2 ^ 64 - 1 }
     ensures output { IsOutputOf (WhySays problem.now) (W.contents sink.old)
         (W.contents sink.new) result }
     ensures failed { result ≡ Err EngineFault.Write → W.failed sink.old < W.failed sink.new }
 {
-    match find_reason(alloc, problem) {
-        Ok(Some(reason)) => write_reason(alloc, problem, &reason, sink),
-        Ok(None) => write_why_used(alloc, problem, sink),
+    match find_cause_until(alloc, problem, &mut Endless) {
+        Ok(Some(cause)) => write_cause(alloc, problem, &cause, sink),
+        Ok(None) => write_none_found(problem, sink),
         Err(_) => Err(EngineFault::Memory),
     }
 }
