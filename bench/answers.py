@@ -1,13 +1,14 @@
 #!/usr/bin/env python3
 """Times `answer` beside the best of the commands that go one way alone.
 
-    python3 bench/answers.py [--seconds N] [--times N] [FILE ..]
+    python3 bench/answers.py [--seconds N] [--times N] [--processors N] [FILE ..]
 
 The files are those of instances.py, two of each kind of learning.py, and any that are named. On each the least wall time of N runs (default 3) is taken of
 `answer`, `alone`, `alone --unlimited`, `learn` and `solve --nodes 1 --workers 4`, each for N seconds at most (default 10). Each file has a row, with a dash
 where a command had no answer in time; the last column says how many times as long as the best of the others `answer` took. The line below the table has the
 geometric mean of these, over the files on which the best took more than a tenth of a second, and the greatest; and by how many milliseconds `answer` was
-slower than `alone` on the others that it decides in a tenth of a second, in the mean and at most. A cover and a `none` for one file are a mistake.
+slower than `alone` on the others that it decides in a tenth of a second, in the mean and at most. A cover and a `none` for one file are a mistake. All
+run on so many processors, as far as there are so many, where a number is given: on one the two lanes of `answer` take turns.
 
 It wants the program: (cd crates/solve_cli && rt run -- --version) builds it. The exit status is 0, 1 where two answers differ, 2 for a mistake on the
 command line or where there is no program.
@@ -82,9 +83,11 @@ def main() -> int:
     words = parser_of(__doc__)
     words.add_argument("--seconds", metavar="N", type=number_from_one, default=10, help="for each run (default 10)")
     words.add_argument("--times", metavar="N", type=number_from_one, default=3, help="how many runs of each (default 3)")
+    words.add_argument("--processors", metavar="N", type=number_from_one, help="on how many processors all run (default all)")
     words.add_argument("files", metavar="FILE", nargs="*", type=path_of, help="a further file")
     given = words.parse_args()
     want_program(SOLVE_CLI)
+    os.sched_setaffinity(0, sorted(os.sched_getaffinity(0))[:given.processors])
     print(f"| File | Answer | {' | '.join(' '.join(way) for way in WAYS)} | Ratio |")
     print("|" + "---|" * (len(WAYS) + 3))
     ratios, later, agree = [], [], True
