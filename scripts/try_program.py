@@ -201,7 +201,7 @@ def progress() -> None:
         turns = run("solve", letters, "--turns", "0", *more)
         expect(f"no turns {more}", turns == (b"no answer\n", b"ended: the turns of a site are over: try more --turns\n", 4))
         full = run("solve", letters, "--entries", "1", *more)
-        expect(f"a full book {more}", full == (b"no answer\n", b"ended: a book is full: try more --entries, or alone\n", 4))
+        expect(f"a full book {more}", full == (b"no answer\n", b"ended: a book is full: try more --entries, or answer\n", 4))
     long = os.path.join(TOP, "examples", "mutilated-chessboard.dlx")
     out, errors, status = run("solve", long, "--fuel", "1", "--seconds", "2", "--progress")
     lines = errors.decode().splitlines()

@@ -25,7 +25,7 @@ impl Reasons {
     /// Why there is no answer, with what may give one.
     pub(crate) fn reason(&self) -> &'static str {
         self.first
-            .unwrap_or("nothing was published: try again, or alone")
+            .unwrap_or("nothing was published: try again, or answer")
     }
 }
 
@@ -33,10 +33,10 @@ impl Reasons {
 fn reason_of(end: &SiteEnd) -> &'static str {
     match end.cause {
         EndCause::Over => "the search is over",
-        EndCause::BookFull => "a book is full: try more --entries, or alone",
-        EndCause::Faults => "a socket failed: try again, or alone",
+        EndCause::BookFull => "a book is full: try more --entries, or answer",
+        EndCause::Faults => "a socket failed: try again, or answer",
         EndCause::Memory => "out of memory: try fewer --nodes or --workers",
-        EndCause::Silence => "a site heard nothing for long: try again, or alone",
+        EndCause::Silence => "a site heard nothing for long: try again, or answer",
         EndCause::Time => "the time is over: try more --seconds",
         EndCause::Turns if !end.is_manned => {
             "a thread could not be started: try fewer --nodes or --workers"

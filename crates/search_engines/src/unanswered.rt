@@ -38,7 +38,7 @@ impl Display for Unanswered {
             Unanswered::GreatestFuel =>
                 "more visits than can be counted, 2^64 - 1: try answer FILE, or --unlimited, which have no such limit",
             Unanswered::Room =>
-                "the room for what is learned is full: try another --seed, or alone",
+                "the room for what is learned is full: try another --seed, or answer",
             Unanswered::Time => "the time is over: try more --seconds, or solve",
             Unanswered::Unpublished => "nothing was published: try alone --unlimited",
         })

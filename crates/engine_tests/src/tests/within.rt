@@ -191,7 +191,7 @@ static UNANSWERED: [(u8, Unanswered, &str); 7] = [
     (
         4,
         Unanswered::Room,
-        "ended: the room for what is learned is full: try another --seed, or alone\n",
+        "ended: the room for what is learned is full: try another --seed, or answer\n",
     ),
     (
         4,

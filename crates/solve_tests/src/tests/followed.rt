@@ -28,18 +28,18 @@ type Ended = (u8, EndCause, bool);
 
 /// Sites in the order in which they ended, and the line.
 static REASONS: [(&[Ended], &str); 10] = [
-    (&[], "ended: nothing was published: try again, or alone\n"),
+    (&[], "ended: nothing was published: try again, or answer\n"),
     (
         &[(0, EndCause::Over, true)],
-        "ended: nothing was published: try again, or alone\n",
+        "ended: nothing was published: try again, or answer\n",
     ),
     (
         &[(1, EndCause::BookFull, true)],
-        "ended: a book is full: try more --entries, or alone\n",
+        "ended: a book is full: try more --entries, or answer\n",
     ),
     (
         &[(2, EndCause::Faults, true)],
-        "ended: a socket failed: try again, or alone\n",
+        "ended: a socket failed: try again, or answer\n",
     ),
     (
         &[(0, EndCause::Memory, false)],
@@ -55,7 +55,7 @@ static REASONS: [(&[Ended], &str); 10] = [
     ),
     (
         &[(1, EndCause::Silence, true)],
-        "ended: a site heard nothing for long: try again, or alone\n",
+        "ended: a site heard nothing for long: try again, or answer\n",
     ),
     (
         &[(2, EndCause::Time, true), (0, EndCause::Silence, true)],
@@ -63,7 +63,7 @@ static REASONS: [(&[Ended], &str); 10] = [
     ),
     (
         &[(3, EndCause::Faults, true), (0, EndCause::BookFull, true)],
-        "ended: a socket failed: try again, or alone\n",
+        "ended: a socket failed: try again, or answer\n",
     ),
 ];
 
