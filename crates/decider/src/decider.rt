@@ -6,6 +6,7 @@ ghost use Rattle.decider.specs.Deciding.{IsDecision};
 
 use crate::deciding::decide;
 use crate::decision::Decision;
+use crate::trace::{Trace, Untraced};
 use brancher::{Kept, Kernel, Tables, Watch};
 use std::alloc::{AllocError, Global};
 use std::marker::Model;
@@ -51,11 +52,20 @@ impl<'a> Decider<'a> {
         ensures problem { self.new.problem ≡ self.old.problem }
         ensures decision { IsDecision W.may_stop (first self.old.problem []) self.new.found result }
     {
+        self.decide_traced(watch, &mut Untraced)
+    }
+
+    /// Does what `decide` does, and the trace hears of each step. The trace hears of all searches of this decider, or of none.
+    pub fn decide_traced<W: Watch, T: Trace>(&mut self, watch: &mut W, trace: &mut T) -> Decision
+        requires { self.old.found ≡ [] }
+        ensures problem { self.new.problem ≡ self.old.problem }
+        ensures decision { IsDecision W.may_stop (first self.old.problem []) self.new.found result }
+    {
         let mut steps = 0;
         // (asked once for a search and not at each prefix: each arm has a recursion of its own)
         match &mut self.kernel {
-            Kernel::Links(links) => decide(links, watch, &mut self.kept, &mut steps),
-            Kernel::Rows(rows) => decide(rows, watch, &mut self.kept, &mut steps),
+            Kernel::Links(links) => decide(links, watch, trace, &mut self.kept, &mut steps),
+            Kernel::Rows(rows) => decide(rows, watch, trace, &mut self.kept, &mut steps),
         }
     }
 

@@ -5,14 +5,16 @@ ghost use Rattle.brancher.specs.Keeping.{IsKnown};
 ghost use Rattle.decider.specs.Deciding.{HaveNoCover, IsDecided};
 
 use crate::decision::Decision;
+use crate::trace::Trace;
 use brancher::{Kept, Watch};
 use choices::Branching;
 
-/// Decides whether there is a cover below the chosen options. They come back, or are the first cover. It counts the prefixes that it comes
-/// to in `steps`.
-pub fn decide<B: Branching, W: Watch>(
+/// Decides whether there is a cover below the chosen options. They come back, or are the first cover. The trace hears of each step. It counts
+/// the prefixes that it comes to in `steps`.
+pub fn decide<B: Branching, W: Watch, T: Trace>(
     state: &mut B,
     watch: &mut W,
+    trace: &mut T,
     kept: &mut Kept,
     steps: &mut u64,
 ) -> Decision
@@ -33,14 +35,17 @@ pub fn decide<B: Branching, W: Watch>(
     kept.made(1);
     watch.made(1, u64::MAX.saturating_sub(*steps));
     let looks = !kept.is_beyond(state.chosen().len());
-    if let Some(visits) = known(state, kept, looks) {
+    if let Some(number) = known(state, kept, looks)
+        && let Some(visits) = trace.meets(number)
+    {
         return Decision::Barren(visits);
     }
+    trace.branches(item);
     let mut visits = 1u64;
     let mut next = state.choose_first(item);
     while next.is_some() {
         // (each call has one more option chosen, so the recursion is no deeper than a prefix is long: at most 1,000)
-        match decide(state, watch, kept, steps) {
+        match decide(state, watch, trace, kept, steps) {
             // (no fuel bounds the sum, so it saturates: the number is in no clause)
             Decision::Barren(count) => visits = visits.saturating_add(count),
             ended => return ended,
@@ -49,12 +54,13 @@ pub fn decide<B: Branching, W: Watch>(
     }
     // (as asked before the children, also if a trial began or ended below)
     if looks {
-        kept.keep(state, visits);
+        // (in the table a number stands in place of the visits: it is in no clause either)
+        kept.keep(state, trace.keeps(state.chosen().len(), visits));
     }
     Decision::Barren(visits)
 }
 
-/// How many visits are kept of the chosen options, if they are and states are looked for here.
+/// The number with which the chosen options are kept, if they are and states are looked for here.
 #[inline(always)]
 fn known<B: Branching>(state: &B, kept: &mut Kept, looks: bool) -> Option<u64>
     ensures unchanged { kept.new ≡ kept.old }

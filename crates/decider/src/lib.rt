@@ -4,6 +4,8 @@
 mod decider;
 mod deciding;
 mod decision;
+mod trace;
 
 pub use decider::Decider;
 pub use decision::Decision;
+pub use trace::{Trace, Untraced};

@@ -28,15 +28,15 @@ returns-in_default-clause-kept g t c =
     let A : Keeping → Type 0 = λ k. HaveNoCover (g.B.Branching.choices c.args.state.now).problem k.states in
     subst A (sym c.is_watch_due.ensures) c.requires
 
-pub returns-in-Some-known-clause-decided : goal.returns-in-Some-known-clause-decided
-returns-in-Some-known-clause-decided g t c =
+pub returns-clause-decided : goal.returns-clause-decided
+returns-clause-decided g t c =
     let now = g.B.Branching.choices c.args.state.now in
     let kept : c.made.new.self ≡ c.args.kept.now = c.made.ensures ∙ c.is_watch_due.ensures in
     let A : Keeping → Type 0 = λ k. HaveNoCover (g.B.Branching.choices c.args.state.now).problem k.states in
-    (known_none now.problem c.made.new.self.states now.chosen c.in-Some-known.visits (subst A (sym kept) c.requires) c.in-Some-known.ensures.known, refl)
+    (known_none now.problem c.made.new.self.states now.chosen c.in-Some-known.number (subst A (sym kept) c.requires) c.in-Some-known.ensures.known, refl)
 
-pub returns-in-Some-known-clause-kept : goal.returns-in-Some-known-clause-kept
-returns-in-Some-known-clause-kept g t c =
+pub returns-clause-kept : goal.returns-clause-kept
+returns-clause-kept g t c =
     let A : Keeping → Type 0 = λ k. HaveNoCover (g.B.Branching.choices c.args.state.now).problem k.states in
     subst A (sym (c.known.ensures.unchanged ∙ c.made.ensures ∙ c.is_watch_due.ensures)) c.requires
 
@@ -57,7 +57,7 @@ decide-requires g t c κs within =
     let before = g.B.Branching.choices c.args.state.now in
     let child = tried_child before (g.B.Branching.choices c.loop-state.state) c.in-Some.item c.loop-state.next (sym c.is_some.ensures ∙ c.loop-state-test.true) c.loop-state.invariant.trying in
     let P : Problem → Type 0 = λ p. HaveNoCover p c.loop-state.kept.states in
-    (omega (arith, c.decreases, ap (λ (p : Problem). p.primary) child.0, child.1, c.loop-state.invariant.short), (within.0, (within.1, subst P (sym child.0) c.loop-state.invariant.kept)))
+    (omega (arith, c.decreases, ap (λ (p : Problem). p.primary) child.0, child.1, c.loop-state.invariant.short), (within.0, (within.1.0, (within.1.1, subst P (sym child.0) c.loop-state.invariant.kept))))
 
 pub returns-in_default-decide : goal.returns-in_default-decide
 returns-in_default-decide g t c =
@@ -94,5 +94,5 @@ returns-then-looks-clause-kept g t c =
     let before = g.B.Branching.choices c.args.state.now in
     let now = g.B.Branching.choices c.loop-state.state in
     let all = tried_all before now c.in-Some.item c.loop-state.next (sym c.is_some.ensures ∙ c.loop-state-test.false) c.loop-state.invariant.trying in
-    let K : Choices → Type 0 = λ v. IsKeptOf v.problem v.chosen c.loop-state.visits c.loop-state.kept.states c.keep.new.self.states in
-    no_cover_kept before.problem c.loop-state.kept.states c.keep.new.self.states before.chosen c.loop-state.visits c.problem.ensures.lawful c.loop-state.invariant.kept (subst K all.0 c.keep.ensures.states) all.1
+    let K : Choices → Type 0 = λ v. IsKeptOf v.problem v.chosen c.keeps.result c.loop-state.kept.states c.keep.new.self.states in
+    no_cover_kept before.problem c.loop-state.kept.states c.keep.new.self.states before.chosen c.keeps.result c.problem.ensures.lawful c.loop-state.invariant.kept (subst K all.0 c.keep.ensures.states) all.1

@@ -3,7 +3,7 @@ use Rattle.cover_problem.specs.Problem.{Problem}
 use Rattle.brancher.specs.declared.kernel.Kernel.{Kernel}
 use Rattle.decider.specs.Deciding.{HaveNoCover}
 use Rattle.brancher.specs.Kernels.{choices_in}
-use Rattle.decider.proofs.decider.Decider.decide.Goals as goal
+use Rattle.decider.proofs.decider.Decider.decide_traced.Goals as goal
 
 pub decide-requires : goal.decide-requires
 decide-requires g c =
