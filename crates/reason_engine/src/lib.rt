@@ -4,4 +4,4 @@
 mod text;
 mod why;
 
-pub use why::{WhyEnd, why_engine};
+pub use why::{WhyEnd, why_engine, why_problem};

@@ -13,7 +13,9 @@ use crate::text::{promoted_text_of, text_of};
 use cover_problem::Problem;
 use cover_reasons::{Reason, Room, find_reason};
 use dlx_reader::{Sink, Source};
-use search_engines::{EngineEnd, EngineFault, problem_of, read_all, write_line};
+use search_engines::{
+    EngineEnd, EngineFault, ReasonListener, Unheard, problem_of, read_all, write_line,
+};
 use std::alloc::Global;
 use used_items::with_used_items;
 
@@ -110,15 +112,27 @@ fn write_why_used<W: Sink>(
 }
 
 /// Looks for a reason why the problem has no exact cover, as it stands or with those items primary that each exact cover uses, writes it, or
-/// that none was found, and returns the status.
-fn write_why<W: Sink>(alloc: Global, problem: &Problem, sink: &mut W) -> Result<u8, EngineFault>
+/// that none was found, and returns the status. The listener hears of a reason of the problem as it stands.
+///
+/// # Errors
+///
+/// `Write` where the sink failed, after a beginning of the text, and `Memory`, before any of it.
+pub fn why_problem<T: ReasonListener, W: Sink>(
+    alloc: Global,
+    problem: &Problem,
+    listener: &mut T,
+    sink: &mut W,
+) -> Result<u8, EngineFault>
     requires { W.failed sink.old < 2 ^ 64 - 1 }
     ensures output { IsOutputOf (WhySays problem.now) (W.contents sink.old)
         (W.contents sink.new) result }
     ensures failed { result ≡ Err EngineFault.Write → W.failed sink.old < W.failed sink.new }
 {
     match find_reason(alloc, problem) {
-        Ok(Some(reason)) => write_reason(alloc, problem, &reason, sink),
+        Ok(Some(reason)) => {
+            listener.hears(&reason);
+            write_reason(alloc, problem, &reason, sink)
+        }
         Ok(None) => write_why_used(alloc, problem, sink),
         Err(_) => Err(EngineFault::Memory),
     }
@@ -147,7 +161,7 @@ pub fn why_engine<R: Source, W: Sink>(
 {
     let text = read_all(alloc, source)?;
     let read = problem_of(alloc, &text)?;
-    let status = write_why(alloc, &read.problem, sink)?;
+    let status = why_problem(alloc, &read.problem, &mut Unheard, sink)?;
     Ok(EngineEnd {
         status,
         ignored: read.ignored,
