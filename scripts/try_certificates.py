@@ -4,13 +4,14 @@
     python3 scripts/try_certificates.py [COUNT]
 
 A plain search in this script writes them: by cases, with kept cases, jumps, dropped cases and reasons where these are found, and by clauses, one for
-each case, some of which are forgotten. Of so many random problems without a cover (default 300) both checkers have to accept both certificates. In
-copies some lines or words are changed: both have to say the same of it, and to name the same line. Of as many problems with a cover all that is tried
-has to be refused: certificates of the problem without an option of the cover, with the counts of the whole one, and copies of them in which lines or
-words are changed. Whether there is a cover says the search of `plain_search.py`.
+each case, some of which are forgotten. A third one is written by the program's own search. Of so many random problems without a cover (default 300) both
+checkers have to accept all three. In copies some lines or words are changed: both have to say the same of it, and to name the same line. Of as many
+problems with a cover all that is tried has to be refused: certificates of the problem without an option of the cover, with the counts of the whole one,
+and copies of them in which lines or words are changed. Whether there is a cover says the search of `plain_search.py`.
 
-It wants the program check_certificate: (cd crates/check_certificate && rt run) builds it. The last line is 'N passed, M failed'. The exit status
-is 0 where all passed, 1 where something failed, 2 for a mistake on the command line or where there is no program.
+It wants the programs check_certificate and solve_cli: (cd crates/check_certificate && rt run) and (cd crates/solve_cli && rt run -- --version) build
+them. The last line is 'N passed, M failed'. The exit status is 0 where all passed, 1 where something failed, 2 for a mistake on the command line or where
+there is no program.
 """
 from __future__ import annotations
 
@@ -22,7 +23,7 @@ import sys
 import tempfile
 from typing import Optional
 
-from built import number_from_one, parser_of, program_of, want_program
+from built import SOLVE_CLI, number_from_one, parser_of, program_of, want_program
 from expected import Trial
 from plain_search import Numbered, clash, live_options, read, search
 from zarfepoch.check_certificate import Checker, Wrong
@@ -141,6 +142,20 @@ def certificates(draw: random.Random, text: str) -> list[list[str]]:
     return [["none", f"cases {len(names)} {len(options)}", *cases.lines], ["none", f"clauses {len(names)} {len(options)}", *clauses.lines]]
 
 
+def searched(folder: str, text: str) -> tuple[list[str], tuple[bytes, bytes, int]]:
+    """The lines of the certificate that the program's own search writes, if it writes any, and what the run comes to."""
+    file, path = (os.path.join(folder, name) for name in ("searched", "written"))
+    with open(file, "w", encoding="ascii") as opened:
+        opened.write(text)
+    ran = subprocess.run([SOLVE_CLI, "alone", file, "--unlimited", "--certificate", path], capture_output=True)
+    lines = []
+    if os.path.exists(path):
+        with open(path, encoding="ascii") as opened:
+            lines = opened.read().splitlines()
+        os.remove(path)
+    return lines, (ran.stdout, ran.stderr.replace(path.encode(), b"FILE"), ran.returncode)
+
+
 def with_another_number(draw: random.Random, line: str) -> str:
     """A line in which one word behind the first is another number."""
     words = line.split(" ")
@@ -226,7 +241,9 @@ def random_text(draw: random.Random) -> str:
 
 
 def try_without_cover(folder: str, draw: random.Random, text: str) -> None:
-    for lines in certificates(draw, text):
+    lines, came = searched(folder, text)
+    expect(f"a search writes a certificate, not {came}, of\n{text}", came[0] == b"none\n" and came[2] == 1 and came[1].endswith(b"certificate right: FILE\n"))
+    for lines in [lines, *certificates(draw, text)]:
         expect(f"the certificate of\n{text}" + "\n".join(lines), by_script(text, lines) == by_program(folder, text, lines) == "right")
         other = changed(draw, lines)
         said = by_script(text, other), by_program(folder, text, other)
@@ -235,6 +252,8 @@ def try_without_cover(folder: str, draw: random.Random, text: str) -> None:
 
 def try_with_cover(folder: str, draw: random.Random, text: str) -> None:
     """Certificates of the problem without the options of its covers, one after the other, with the counts of the whole one."""
+    lines, came = searched(folder, text)
+    expect(f"a cover has no certificate: {came}, {lines}, of\n{text}", came[2] == 0 and not lines and b"certificate" not in came[1])
     head, *options = text.splitlines()
     rest = text
     while True:
@@ -245,7 +264,7 @@ def try_with_cover(folder: str, draw: random.Random, text: str) -> None:
         del options[draw.choice(cover)]
         rest = "\n".join([head, *options]) + "\n"
     names, _, kept, _ = read(text.encode())
-    for lines in certificates(draw, rest):
+    for lines in [searched(folder, rest)[0], *certificates(draw, rest)]:
         lines[1] = f"{lines[1].split()[0]} {len(names)} {len(kept)}"
         for other in (lines, changed(draw, lines), changed(draw, lines)):
             said = by_script(text, other), by_program(folder, text, other)
@@ -257,6 +276,7 @@ def main() -> int:
     parser.add_argument("count", metavar="COUNT", type=number_from_one, nargs="?", default=300, help="how many problems of each kind (default 300)")
     count = parser.parse_args().count
     want_program(CHECK_CERTIFICATE, "check_certificate")
+    want_program(SOLVE_CLI)
     draw, left = random.Random(96), {True: count, False: count}
     with tempfile.TemporaryDirectory() as folder:
         while any(left.values()):

@@ -105,27 +105,58 @@ def examples(folder: str) -> None:
         expect(name + " wrong answer", out.startswith(b"wrong: ") and status == 1)
 
 
+# the edges of a triangle in two colours: only with the colours' places primary, which each cover would use, weights show that there is none
+JUST_ENOUGH = "ab ac bc | ra rb rc ua ub uc\nab ra rb\nab ua ub\nac ra rc\nac ua uc\nbc rb rc\nbc ub uc\n"
+# with which words certificates are written, and what `check` expects in place of a line that is cut off
+CERTIFYING = {("learn",): "'d' and a number, or literals and hints", ("alone", "--unlimited"): "the number of an item, or = or * and a number"}
+
+
 def certificates(folder: str) -> None:
     """A certificate is written where there is no cover, tested by the program and by a script, and there is none else."""
-    script = os.path.join(TOP, "scripts", "check_certificate.py")
-    for name in ("letters.dlx", "langford-5.dlx", "tetrominoes-4x5.dlx"):
-        file, path = os.path.join(TOP, "examples", name), os.path.join(folder, name + ".certificate")
-        out, errors, status = run("learn", file, "--certificate", path)
-        if name not in NONE:
-            expect(name + " has no certificate", is_exact(file, out) and (errors, status) == (b"", 0) and not os.path.exists(path))
-            continue
-        expect(name + " certified", (out, errors, status) == (b"none\n", f"certificate right: {path}\n".encode(), 1))
-        expect(name + " certificate checked", run("check", file, path) == (b"right\n", b"", 0))
-        ran = subprocess.run([sys.executable, script, file, path], capture_output=True)
-        expect(name + " certificate checked by the script", (ran.stdout, ran.returncode) == (b"right\n", 0))
-        with open(path, "rb") as opened:
-            lines = opened.read().split(b"\n")
-        with open(path, "wb") as opened:
-            opened.write(b"\n".join(lines[:-2]) + b"\n")
-        cut = f"wrong: line {len(lines) - 1}: expected 'd' and a number, or literals and hints\n".encode()
-        expect(name + " certificate cut off", run("check", file, path) == (cut, b"", 1))
-        expect(name + " to a full disk", run("learn", file, "--certificate", "/dev/full") == (b"none\n", b"cannot write: /dev/full\n", 3))
+    for words, expected in CERTIFYING.items():
+        for name in ("letters.dlx", "langford-5.dlx", "tetrominoes-4x5.dlx"):
+            certified(folder, name, words, expected)
+    board = os.path.join(TOP, "examples", "mutilated-chessboard.dlx")
+    path = os.path.join(folder, "why.certificate")
+    reason = run("why", board)[0]
+    expect("a reason certified", run("why", board, "--certificate", path) == (reason, f"certificate right: {path}\n".encode(), 1))
+    with open(path, "rb") as opened:
+        expect("a reason is one line", len(opened.read().splitlines()) == 4)
+    expect("a reason checked", run("check", board, path) == (b"right\n", b"", 0))
+    letters = os.path.join(TOP, "examples", "letters.dlx")
+    expect("no reason", run("why", letters, "--certificate", path) == (b"no reason found\n", b"", 4) and not os.path.exists(path))
+    expect("a certificate and fuel", run("alone", letters, "--certificate", path)[2] == 2 and not os.path.exists(path))
+    periods = os.path.join(folder, "just_enough.dlx")
+    with open(periods, "w", encoding="ascii") as opened:
+        opened.write(JUST_ENOUGH)
+    said = run("why", periods, "--certificate", path)
+    expect("no line for just enough room", said[0].startswith(b"none\njust enough room\n") and said[1].startswith(b"no certificate: ") and said[2] == 3)
+    expect("no file for just enough room", not os.path.exists(path))
     expect("the full disk is still there", os.path.exists("/dev/full"))
+
+
+def certified(folder: str, name: str, words: tuple[str, ...], expected: str) -> None:
+    """A certificate of an example is written by these words, if it has no cover."""
+    script = os.path.join(TOP, "scripts", "check_certificate.py")
+    file, path = os.path.join(TOP, "examples", name), os.path.join(folder, name + ".certificate")
+    command, *options = words
+    out, errors, status = run(command, file, *options, "--certificate", path)
+    said = f"{name} by {command}: "
+    if name not in NONE:
+        expect(said + "no certificate", is_exact(file, out) and (errors, status) == (b"", 0) and not os.path.exists(path))
+        return
+    expect(said + "certified", (out, errors, status) == (b"none\n", f"certificate right: {path}\n".encode(), 1))
+    expect(said + "certificate checked", run("check", file, path) == (b"right\n", b"", 0))
+    ran = subprocess.run([sys.executable, script, file, path], capture_output=True)
+    expect(said + "certificate checked by the script", (ran.stdout, ran.returncode) == (b"right\n", 0))
+    with open(path, "rb") as opened:
+        lines = opened.read().split(b"\n")
+    with open(path, "wb") as opened:
+        opened.write(b"\n".join(lines[:-2]) + b"\n")
+    cut = f"wrong: line {len(lines) - 1}: expected {expected}\n".encode()
+    expect(said + "certificate cut off", run("check", file, path) == (cut, b"", 1))
+    full = run(command, file, *options, "--certificate", "/dev/full")
+    expect(said + "to a full disk", full == (b"none\n", b"cannot write: /dev/full\n", 3))
 
 
 def unread(name: str, why: str) -> bytes:

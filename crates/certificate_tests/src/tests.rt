@@ -4,6 +4,7 @@
 //! `text_goes_on_behind_the_empty_clause`.
 
 mod engine;
+mod searched;
 mod written;
 
 use cover_certificates::{Checked, Expected, begins_certificate, check_certificate};

@@ -1,15 +1,12 @@
 //! What a learner's kernel learns and forgets, as the lines of a certificate.
 
+use crate::text::{head_of, push_number, send, send_if_many};
 use cover_problem::Problem;
 use dlx_reader::Sink;
 use implied_clauses::{Hint, Literal};
-use itoa::Buffer;
 use std::alloc::{AllocError, Global};
 use std::io;
 use std::io::ErrorKind;
-
-/// So many bytes wait to be written together.
-const MOST_WAITING: usize = 1 << 16;
 
 /// Writes the lines of a certificate by clauses, one after the other. A fault is kept until the end: the learner goes on, since a cover needs
 /// no certificate.
@@ -33,7 +30,7 @@ impl<W: Sink + Drop> ClauseWriter<W> {
     pub fn new(alloc: Global, problem: &Problem, sink: W) -> Result<ClauseWriter<W>, AllocError> {
         Ok(ClauseWriter {
             sink,
-            text: head_of(alloc, problem)?,
+            text: head_of(alloc, b"clauses", problem)?,
             primary: problem.primary(),
             numbers: Vec::new(alloc),
             next: problem.primary() as u32,
@@ -53,7 +50,7 @@ impl<W: Sink + Drop> ClauseWriter<W> {
 
     /// Writes what still waits. Returns whether all was written.
     pub fn end(&mut self) -> bool {
-        self.is_whole = self.is_whole && self.send().is_ok();
+        self.is_whole = self.is_whole && send(&mut self.text, &mut self.sink).is_ok();
         self.is_whole
     }
 
@@ -64,16 +61,16 @@ impl<W: Sink + Drop> ClauseWriter<W> {
         self.push_hints(hints)?;
         self.text.push(b'\n')?;
         self.note(place)?;
-        self.send_if_many()
+        send_if_many(&mut self.text, &mut self.sink)
     }
 
     fn write_forgotten(&mut self, place: u32) -> io::Result<()> {
         if let Some(number) = self.number_at(place) {
             self.text.extend_from_slice(b"d ")?;
-            push_number(&mut self.text, number)?;
+            push_number(&mut self.text, u64::from(number))?;
             self.text.push(b'\n')?;
         }
-        self.send_if_many()
+        send_if_many(&mut self.text, &mut self.sink)
     }
 
     fn push_hints(&mut self, hints: &[Hint]) -> io::Result<()> {
@@ -90,7 +87,7 @@ impl<W: Sink + Drop> ClauseWriter<W> {
             Hint::Clause(place) => {
                 if let Some(number) = self.number_at(place) {
                     push_gap(&mut self.text)?;
-                    push_number(&mut self.text, number)?;
+                    push_number(&mut self.text, u64::from(number))?;
                 }
             }
         }
@@ -119,29 +116,6 @@ impl<W: Sink + Drop> ClauseWriter<W> {
         }
         Ok(())
     }
-
-    fn send_if_many(&mut self) -> io::Result<()> {
-        if self.text.len() < MOST_WAITING {
-            return Ok(());
-        }
-        self.send()
-    }
-
-    fn send(&mut self) -> io::Result<()> {
-        self.sink.write_all(&self.text)?;
-        self.text.clear();
-        Ok(())
-    }
-}
-
-/// Returns the two lines at the head; the only error is out of memory.
-fn head_of(alloc: Global, problem: &Problem) -> Result<Vec<u8>, AllocError> {
-    let mut text = Vec::from_slice(alloc, b"none\nclauses ")?;
-    push_number(&mut text, problem.items() as u32)?;
-    text.push(b' ')?;
-    push_number(&mut text, problem.options() as u32)?;
-    text.push(b'\n')?;
-    Ok(text)
 }
 
 /// Adds a space, unless a line begins here.
@@ -151,11 +125,6 @@ fn push_gap(text: &mut Vec<u8>) -> Result<(), AllocError> {
         Some(_) => text.push(b' ')?,
     }
     Ok(())
-}
-
-fn push_number(text: &mut Vec<u8>, number: u32) -> Result<(), AllocError> {
-    let mut digits = Buffer::new();
-    text.extend_from_slice(digits.format(number).as_bytes())
 }
 
 fn push_literal(text: &mut Vec<u8>, literal: Literal) -> Result<(), AllocError> {
@@ -168,11 +137,11 @@ fn push_literal(text: &mut Vec<u8>, literal: Literal) -> Result<(), AllocError> 
 
 fn push_signed(text: &mut Vec<u8>, sign: u8, option: u16) -> Result<(), AllocError> {
     text.push(sign)?;
-    push_number(text, u32::from(option))
+    push_number(text, u64::from(option))
 }
 
 fn push_clash(text: &mut Vec<u8>, first: u16, second: u16) -> Result<(), AllocError> {
     push_gap(text)?;
-    push_number(text, u32::from(first))?;
+    push_number(text, u64::from(first))?;
     push_signed(text, b':', second)
 }

@@ -9,6 +9,10 @@ use dlx_reader::{Sink, Source};
 use search_engines::{EngineFault, read_all};
 use std::alloc::Global;
 
+/// What is said where a reason needs items to be primary that the file has as secondary ones.
+const NO_LINE: &str =
+    "none has a line for just enough room; alone --unlimited --certificate or learn --certificate may write one";
+
 /// What became of a certificate that was to be written.
 #[derive(Clone, Copy, Debug, PartialEq, Eq)]
 pub enum CertificateFate {
@@ -20,6 +24,8 @@ pub enum CertificateFate {
     Uncreated,
     /// It can't be written: the device may be full.
     Unwritten,
+    /// No line of a certificate says what the answer rests on.
+    Unsayable,
     /// It was written, and can't be read back, as from a pipe.
     Unread,
     /// There is no memory to test it.
@@ -45,6 +51,7 @@ impl CertificateFate {
             CertificateFate::Right => (writeln!(sink, "certificate right: {name}"), status),
             CertificateFate::Uncreated => (writeln!(sink, "cannot create: {name}"), 3),
             CertificateFate::Unwritten => (writeln!(sink, "cannot write: {name}"), 3),
+            CertificateFate::Unsayable => (writeln!(sink, "no certificate: {NO_LINE}"), 3),
             CertificateFate::Unread => {
                 (writeln!(sink, "certificate not tested: {name}"), status)
             }

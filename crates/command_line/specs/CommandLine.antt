@@ -1,5 +1,5 @@
 -- The command line of the program, as the shape of a clap command, and what its words spell.
-use Rattle.std.specs.Prelude.{◌≡◌, ◌≢◌, ◌≤◌, ◌<◌, ◌^◌, ◌↔◌, ℕ, Bool, List, [], ◌∷◌, Option, Some, None, codes, option_map, true}
+use Rattle.std.specs.Prelude.{◌≡◌, ◌≢◌, ◌≤◌, ◌<◌, ◌^◌, ◌↔◌, ℕ, Bool, List, [], ◌∷◌, Option, Some, None, codes, is_some, option_map, true, false}
 use Rattle.std.specs.Str.Parse.{IsNumeral, digits_value}
 use Rattle.clap.specs.declared.builder.action.ArgAction.TheVariants.{SetTrue}
 use Rattle.clap.specs.declared.error.kind.ErrorKind.{ErrorKind}
@@ -46,10 +46,11 @@ timed app = with_rule app (limit_rule (codes "seconds"))
 abbrev pub certified : App → App
 certified app = with_rule app (limit_rule (codes "certificate"))
 
--- what one thread searches, whether it writes how far it has come, whether it has no limit of visits, and when it ends
+-- what one thread searches, whether it writes how far it has come, whether it has no limit of visits, when it ends, and where a certificate
+-- goes
 abbrev pub alone_app : App
 alone_app =
-    timed (with_rule (with_rule (with_rule (with_rule (versioned (new_app (codes "alone"))) (file_rule (codes "file"))) greatest_fuel_rule) (flag_rule (codes "progress"))) (flag_rule (codes "unlimited")))
+    certified (timed (with_rule (with_rule (with_rule (with_rule (versioned (new_app (codes "alone"))) (file_rule (codes "file"))) greatest_fuel_rule) (flag_rule (codes "progress"))) (flag_rule (codes "unlimited"))))
 
 -- which answer is tested against which file, whether without a limit of visits, and when that ends
 abbrev pub check_app : App
@@ -66,9 +67,9 @@ abbrev pub answer_app : App
 answer_app =
     reasoned (timed (with_rule (with_rule (with_rule (versioned (new_app (codes "answer"))) (file_rule (codes "file"))) (flag_rule (codes "progress"))) (limit_rule (codes "threads"))))
 
--- of which file a reason is looked for
+-- of which file a reason is looked for, and where a certificate goes
 abbrev pub why_app : App
-why_app = with_rule (versioned (new_app (codes "why"))) (file_rule (codes "file"))
+why_app = certified (with_rule (versioned (new_app (codes "why"))) (file_rule (codes "file")))
 
 -- in which file any cover is looked for, with which seed, whether it writes how far it has come, when it ends, and where a certificate goes
 abbrev pub learn_app : App
@@ -183,6 +184,12 @@ pub record ReadsInputTwice (settings : Settings) : Type 0 where
 pub record IsLimitedTwice (request : Request) : Type 0 where
   pub unlimited : request.unlimited ≡ true
   pub limited : request.settings.fuel ≢ greatest_fuel
+
+-- A search with a limit of visits is to write a certificate.
+pub record IsLimitedCertificate (request : Request) : Type 0 where
+  pub alone : request.settings.mode ≡ modes.Alone
+  pub limited : request.unlimited ≡ false
+  pub asked : is_some request.certificate ≡ true
 
 -- They are spelled by the subcommand that clap's definition of a simple command's matches gives for the words, with its values.
 pub record AreMet (met : Option (Text × List Row)) (settings : Settings) : Type 0 where

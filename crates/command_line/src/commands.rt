@@ -151,7 +151,7 @@ fn certificate_argument<'a>(alloc: Global) -> Arg<'a>
     limit_argument(
         alloc,
         "certificate",
-        "Where there is no cover, writes lines by which anybody can check that to this file; check tests them",
+        "Where there is no cover, writes lines by which anybody can check that to this file; check tests them. With alone only beside --unlimited",
     )
 }
 
@@ -175,7 +175,7 @@ fn alone_command<'a>(alloc: Global) -> Result<Command<'a>, AllocError>
     let command = described(alloc, "alone", about).after_help(SEARCH_STATUSES);
     let command = with_two(command, file_argument(alloc), fuel_argument(alloc))?;
     let command = with_two(command, progress_argument(alloc), unlimited_argument(alloc))?;
-    command.arg(time_argument(alloc))
+    with_two(command, time_argument(alloc), certificate_argument(alloc))
 }
 
 fn check_command<'a>(alloc: Global) -> Result<Command<'a>, AllocError>
@@ -209,9 +209,8 @@ fn why_command<'a>(alloc: Global) -> Result<Command<'a>, AllocError>
 {
     let about =
         "Looks for a reason why the problem has no exact cover that can be added up by hand, and writes it; it may find none";
-    described(alloc, "why", about)
-        .after_help(WHY_STATUSES)
-        .arg(file_argument(alloc))
+    let command = described(alloc, "why", about).after_help(WHY_STATUSES);
+    with_two(command, file_argument(alloc), certificate_argument(alloc))
 }
 
 fn learn_command<'a>(alloc: Global) -> Result<Command<'a>, AllocError>

@@ -2,7 +2,7 @@
 
 ghost use Rattle.std.specs.Prelude.{Option, ◌≡◌, ◌≢◌, ◌↔◌, true, IfNone, IfOk, IfSome, codes, is_some, map, option_map};
 ghost use Rattle.clap.specs.Words.{Text, first_value, found_of, subcommand_of};
-ghost use Rattle.command_line.specs.CommandLine.{AreMet, AreSpelled, IsAnswerFile, IsFlag, IsLimitedTwice, IsMet, IsSpelled, ReadsInputTwice, mode_word, solver_app};
+ghost use Rattle.command_line.specs.CommandLine.{AreMet, AreSpelled, IsAnswerFile, IsFlag, IsLimitedCertificate, IsLimitedTwice, IsMet, IsSpelled, ReadsInputTwice, mode_word, solver_app};
 
 use crate::commands::{solver_command, value_error};
 use crate::fault::{SettingsFault, fault_of};
@@ -24,6 +24,10 @@ const INPUT_TWICE: &str =
 
 /// What is reported where a search is asked to have no limit and given one.
 const LIMITED_TWICE: &str = "--unlimited can't be used with --fuel";
+
+/// What is reported where a search with a limit of visits is asked for a certificate.
+const LIMITED_CERTIFICATE: &str =
+    "--certificate needs --unlimited: a search with a limit of visits writes no certificate";
 
 /// Returns the mode that a subcommand's name asks for.
 fn mode_of(name: &str) -> Option<Mode>
@@ -136,6 +140,13 @@ fn is_limited_twice(request: &Request<'_>) -> bool
     request.unlimited && request.settings.fuel != u64::MAX
 }
 
+/// Returns whether a search with a limit of visits is to write a certificate.
+fn is_limited_certificate(request: &Request<'_>) -> bool
+    ensures { (result ≡ true) ↔ IsLimitedCertificate request.now }
+{
+    request.settings.mode == Mode::Alone && !request.unlimited && request.certificate.is_some()
+}
+
 /// Returns the name that the program was called by: the first word, without the folders before it.
 fn program_name<'a>(words: &[&'a str]) -> &'a str {
     match words.first() {
@@ -167,13 +178,14 @@ fn no_subcommand(command: Command<'_>) -> SettingsFault {
 /// # Errors
 ///
 /// `Line` has clap's message for words that are no command line, for a value that is no number of its range, for standard input that
-/// is named twice and for a limit of visits beside `--unlimited`, or clap's text for help and version. `Memory` comes where memory ran
-/// out, in clap too.
+/// is named twice, for a limit of visits beside `--unlimited` and for a certificate of a search that has one, or clap's text for help and
+/// version. `Memory` comes where memory ran out, in clap too.
 pub fn request<'a>(alloc: Global, words: &'a [&'a str]) -> Result<Request<'a>, SettingsFault>
     ensures met { IfOk result
         (IsMet (subcommand_of solver_app (map (λ word. word.now) words.now))) }
     ensures once { IfOk result (λ request. ReadsInputTwice request.settings → ⊥) }
     ensures limit { IfOk result (λ request. IsLimitedTwice request → ⊥) }
+    ensures certificate { IfOk result (λ request. IsLimitedCertificate request → ⊥) }
 {
     let Ok(mut command) = solver_command(alloc) else {
         return Err(SettingsFault::Memory);
@@ -197,6 +209,9 @@ pub fn request<'a>(alloc: Global, words: &'a [&'a str]) -> Result<Request<'a>, S
     }
     if is_limited_twice(&request) {
         return Err(value_fault(alloc, words, mode, LIMITED_TWICE));
+    }
+    if is_limited_certificate(&request) {
+        return Err(value_fault(alloc, words, mode, LIMITED_CERTIFICATE));
     }
     Ok(request)
 }

@@ -6,4 +6,4 @@ mod text;
 mod why;
 
 pub use cause::{Cause, cause_lines, find_cause_until};
-pub use why::{WhyEnd, why_engine};
+pub use why::{WhyEnd, why_engine, why_problem};

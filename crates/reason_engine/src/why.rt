@@ -10,7 +10,9 @@ use crate::cause::{Cause, find_cause_until, text_of};
 use cover_problem::Problem;
 use cover_reasons::Endless;
 use dlx_reader::{Sink, Source};
-use search_engines::{EngineEnd, EngineFault, problem_of, read_all, write_line};
+use search_engines::{
+    EngineEnd, EngineFault, ReasonListener, Unheard, problem_of, read_all, write_line,
+};
 use std::alloc::Global;
 
 /// How a run of `why` ended: with status 1 where a reason was written, 4 where none was found.
@@ -45,15 +47,35 @@ fn write_none_found<W: Sink>(_problem: &Problem, sink: &mut W) -> Result<u8, Eng
     write_line(b"no reason found\n", 4, sink)
 }
 
-/// Looks for a reason why the problem has no exact cover, as [`find_cause_until`] does, writes it, or that none was found, and returns the status.
-fn write_why<W: Sink>(alloc: Global, problem: &Problem, sink: &mut W) -> Result<u8, EngineFault>
+/// Lets a listener hear of a reason of the problem as it stands.
+fn tell_reason<T: ReasonListener>(cause: &Cause, listener: &mut T) {
+    if let Cause::AsItStands(reason) = cause {
+        listener.hears(reason);
+    }
+}
+
+/// Looks for a reason why the problem has no exact cover, as [`find_cause_until`] does, writes it, or that none was found, and returns the
+/// status. The listener hears of a reason of the problem as it stands.
+///
+/// # Errors
+///
+/// `Write` where the sink failed, after a beginning of the text, and `Memory`, before any of it.
+pub fn why_problem<T: ReasonListener, W: Sink>(
+    alloc: Global,
+    problem: &Problem,
+    listener: &mut T,
+    sink: &mut W,
+) -> Result<u8, EngineFault>
     requires { W.failed sink.old < 2 ^ 64 - 1 }
     ensures output { IsOutputOf (WhySays problem.now) (W.contents sink.old)
         (W.contents sink.new) result }
     ensures failed { result ≡ Err EngineFault.Write → W.failed sink.old < W.failed sink.new }
 {
     match find_cause_until(alloc, problem, &mut Endless) {
-        Ok(Some(cause)) => write_cause(alloc, problem, &cause, sink),
+        Ok(Some(cause)) => {
+            tell_reason(&cause, listener);
+            write_cause(alloc, problem, &cause, sink)
+        }
         Ok(None) => write_none_found(problem, sink),
         Err(_) => Err(EngineFault::Memory),
     }
@@ -82,7 +104,7 @@ pub fn why_engine<R: Source, W: Sink>(
 {
     let text = read_all(alloc, source)?;
     let read = problem_of(alloc, &text)?;
-    let status = write_why(alloc, &read.problem, sink)?;
+    let status = why_problem(alloc, &read.problem, &mut Unheard, sink)?;
     Ok(EngineEnd {
         status,
         ignored: read.ignored,

@@ -9,7 +9,7 @@ use crate::stopwatch::Stopwatch;
 use brancher::{ROOM, Tables, Watch};
 use cover_problem::{Answer, Problem, in_order};
 use cover_reasons::{ReasonWatch, find_reason_until, holds_of};
-use decider::{Decider, Decision};
+use decider::{Decider, Decision, Trace, Untraced};
 use std::alloc::{AllocError, Global};
 use std::time::{Clock, Duration};
 use used_items::is_excluded_by_used_items;
@@ -20,9 +20,9 @@ const SHORT: u64 = 100;
 /// A watch that stops a search `SHORT` after it was made. Where the clock can't be read it stops it at its first look: the search is
 /// then begun again under a watch that needs no clock.
 #[derive(Drop)]
-struct ShortWatch<'a, C: Clock> {
-    clock: &'a C,
-    stopwatch: Stopwatch,
+pub(crate) struct ShortWatch<'a, C: Clock> {
+    pub(crate) clock: &'a C,
+    pub(crate) stopwatch: Stopwatch,
 }
 
 impl<'a, C: Clock> Watch for ShortWatch<'a, C> {
@@ -38,12 +38,13 @@ impl<'a, C: Clock> Watch for ShortWatch<'a, C> {
     }
 }
 
-/// Searches the problem until it is decided or the watch stops it, and returns the answer, or none where it was stopped. The only error
-/// is out of memory.
-fn searched<V: Watch>(
+/// Searches the problem until it is decided or the watch stops it, and returns the answer, or none where it was stopped. The trace hears of
+/// each step. The only error is out of memory.
+pub(crate) fn searched<V: Watch, T: Trace>(
     alloc: Global,
     tables: &Tables<'_>,
     watch: &mut V,
+    trace: &mut T,
 ) -> Result<Option<Answer>, AllocError>
     ensures answer { IfOk result (λ found. MatchOption found (V.may_stop ≡ true)
         (λ answer. answer ≡ answer_by tables.now (first tables.now []))) }
@@ -51,7 +52,7 @@ fn searched<V: Watch>(
 {
     let problem = tables.problem();
     let mut decider = Decider::new(alloc, tables, ROOM)?;
-    match decider.decide(watch) {
+    match decider.decide_traced(watch, trace) {
         Decision::Found => Ok(Some(Answer::Cover(in_order(alloc, problem, decider.found())?))),
         Decision::Barren(_) => Ok(Some(Answer::NoCover)),
         Decision::Stopped => Ok(None),
@@ -60,8 +61,8 @@ fn searched<V: Watch>(
 
 /// The watch of a search, while a reason is looked for: no option is chosen, and no visit made.
 #[derive(Drop)]
-struct RootWatch<'a, V: Watch> {
-    watch: &'a mut V,
+pub(crate) struct RootWatch<'a, V: Watch> {
+    pub(crate) watch: &'a mut V,
 }
 
 impl<'a, V: Watch> ReasonWatch for RootWatch<'a, V> {
@@ -105,7 +106,7 @@ pub fn search_until<V: Watch>(
         (λ answer. answer ≡ answer_by problem.now (first problem.now []))) }
     ensures order { IfOk result (λ found. IfSome found (IsWritable problem.now)) }
 {
-    searched(alloc, &Tables::build(alloc, problem)?, watch)
+    searched(alloc, &Tables::build(alloc, problem)?, watch, &mut Untraced)
 }
 
 /// Returns the answer of a problem: its first cover, with its options in the order of the file, or that there is none; no answer where the
@@ -124,14 +125,14 @@ pub fn answer_until<V: Watch, C: Clock>(
     let tables = Tables::build(alloc, problem)?;
     let stopwatch = Stopwatch::new(clock);
     let mut short = ShortWatch { clock, stopwatch };
-    if let Some(answer) = searched(alloc, &tables, &mut short)? {
+    if let Some(answer) = searched(alloc, &tables, &mut short, &mut Untraced)? {
         return Ok(Some(answer));
     }
     if is_excluded(alloc, problem, watch) {
         return Ok(Some(Answer::NoCover));
     }
     // (from the start once more: what the short search did is a tenth of a second, little beside what may follow)
-    searched(alloc, &tables, watch)
+    searched(alloc, &tables, watch, &mut Untraced)
 }
 
 /// Returns the answer that `answer_until` gives under a watch that stops nothing, so there is always one.

@@ -3,6 +3,7 @@
 #![tactic(auto)]
 
 mod alone;
+mod certifying;
 mod check;
 mod deciding;
 mod engine;
@@ -24,6 +25,9 @@ mod unanswered;
 mod within;
 
 pub use alone::{AloneEnd, alone_engine};
+pub use certifying::{
+    ReasonListener, Unheard, certified_until, write_certified, write_certified_within,
+};
 pub use check::{CheckEnd, check_engine, check_unlimited};
 pub use deciding::{answer_until, first_answer, is_excluded, search_until};
 pub use engine::EngineEnd;
@@ -41,6 +45,7 @@ pub use stopwatch::Stopwatch;
 pub use telling::{
     tell, tell_end, tell_end_of, tell_fault, tell_fault_of, tell_unbound, tell_unopened,
 };
+pub use timed_watch::TimedWatch;
 pub use tree_estimate::TreeEstimate;
 pub use unanswered::{Unanswered, tell_unanswered};
 pub use within::{alone_within, check_within};

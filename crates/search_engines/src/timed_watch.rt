@@ -7,10 +7,13 @@ use std::time::Clock;
 
 /// A watch that does what another one does, and stops the search once it has lasted as long as it may.
 #[derive(Drop)]
-pub(crate) struct TimedWatch<'a, V: EndWatch, C: Clock> {
-    pub(crate) clock: &'a C,
-    pub(crate) limits: &'a SearchLimits,
-    pub(crate) inner: &'a mut V,
+pub struct TimedWatch<'a, V: EndWatch, C: Clock> {
+    /// What tells the time.
+    pub clock: &'a C,
+    /// How long the search may last.
+    pub limits: &'a SearchLimits,
+    /// What looks first.
+    pub inner: &'a mut V,
 }
 
 impl<'a, V: EndWatch, C: Clock> Watch for TimedWatch<'a, V, C> {

@@ -1,12 +1,14 @@
 //! `solve_cli`: finds an exact cover of a problem in the format of Knuth's DLX1, or shows that there is none.
 #![tactic(auto)]
 
+mod certified;
+
 ghost use Rattle.std.specs.Prelude.{◌≡◌, IfOk};
 
 use answer_engine::Task;
 pub use answer_engine::{AnswerEnd, answer_engine};
 use certificate_engine::{begins_certificate, certificate_engine};
-use certificate_writer::{CertificateFate, CertifyingWatch, ClauseWriter, test_written};
+use certified::run_certified;
 use command_line::request;
 pub use command_line::{SettingsFault, settings};
 pub use cover_engines::{
@@ -14,19 +16,18 @@ pub use cover_engines::{
     simulate_engine, solve_engine, tell, tell_fault,
 };
 use cover_engines::{
-    EngineEnd, LineStyle, Loopback, Machine, ProgressLog, Remembered, SearchLimits, TimeLimit,
-    Unanswered, alone_within, check_unlimited, check_within, tell_end_of, tell_unanswered,
-    tell_unopened,
+    LineStyle, Loopback, Machine, ProgressLog, Remembered, SearchLimits, TimeLimit, Unanswered,
+    alone_within, check_unlimited, check_within, tell_end_of, tell_unanswered, tell_unopened,
 };
-use cover_problem::Problem;
-use dlx_reader::{CountedReader, CountedWriter, Read, Sink, Source};
+use dlx_reader::{CountedReader, CountedWriter, Sink, Source};
 use either::Either;
-use learn_engine::{LearnWatch, learn_problem};
+use learn_engine::LearnWatch;
 pub use learn_engine::{LearnEnd, learn_engine};
 pub use reason_engine::{WhyEnd, why_engine};
 pub use run_settings::{Mode, Settings};
 use run_settings::{Request, STANDARD_INPUT};
-use search_engines::{read_all, read_whole, tell_fault_of};
+use search_engines::read_all;
+use std::env;
 use std::fs::File;
 use std::io::{self, ErrorKind, IsTerminal, Stdin};
 use std::net::Net;
@@ -34,7 +35,6 @@ use std::process::ExitCode;
 use std::sync::Wait;
 use std::thread::{self, Threads};
 use std::time::{Clock, Duration};
-use std::{env, fs};
 
 /// What is read: a file, or standard input. The text is kept, so that a message can quote a name in it.
 type Input = Remembered<CountedReader<Either<File, Stdin>>>;
@@ -296,112 +296,6 @@ fn learn<W: Sink>(
     ended
 }
 
-/// Runs `learn` on a file, writes a certificate where there is no cover, and returns the exit status.
-fn run_certified(rt: &HostRuntime, request: &Request<'_>, name: &str) -> u8 {
-    let mut errors = CountedWriter::new(rt.stderr());
-    // (the time counts from here, so opening and reading the file is part of it)
-    let limits = limits_of(rt, request);
-    let mut source = match open(rt, request.settings.file) {
-        Ok(source) => source,
-        Err(error) => return tell_unopened(request.settings.file, error.kind(), &mut errors),
-    };
-    match read_whole(rt.alloc(), &mut source) {
-        Ok(read) => certify(rt, request, &limits, &read, name, &mut errors),
-        Err(fault) => {
-            let status = tell_fault_of(&fault, request.settings.file, &mut errors);
-            source.tell_unknown(status, &mut errors);
-            status
-        }
-    }
-}
-
-/// Learns from a problem, writes the answer and a certificate, and returns the exit status. Only a certificate that is right stays.
-fn certify<E: Sink>(
-    rt: &HostRuntime,
-    request: &Request<'_>,
-    limits: &SearchLimits,
-    read: &Read,
-    name: &str,
-    errors: &mut E,
-) -> u8 {
-    let Some(file) = create(rt, request.settings.file, name) else {
-        return CertificateFate::Uncreated.tell(name, 3, errors);
-    };
-    let (ended, is_whole) = learn_into(rt, request, limits, &read.problem, file, errors);
-    let ended = match ended {
-        Ok(status) => Ok(EngineEnd {
-            status,
-            ignored: read.ignored,
-        }),
-        Err(fault) => Err(fault),
-    };
-    let status = tell_end_of(&ended, request.settings.file, errors);
-    tell_unanswered(&ended, why_unlearned(rt, limits), errors);
-    let fate = if status == 1 {
-        fate_of(rt, &read.problem, name, is_whole)
-    } else {
-        CertificateFate::Unneeded
-    };
-    if !fate.is_kept() && is_plain(rt, name) {
-        let _ = fs::remove_file(rt, name);
-    }
-    fate.tell(name, status, errors)
-}
-
-/// Returns whether there is a plain file of this name, and no device or pipe: such a one is never removed, and what it took can't be read back.
-fn is_plain(rt: &HostRuntime, name: &str) -> bool {
-    match fs::metadata(rt, name) {
-        Ok(found) => found.is_file(),
-        Err(_) => false,
-    }
-}
-
-/// Makes the file that is to get a certificate, empty if there is one of this name; none where that can't be, or where it is the problem's.
-fn create(rt: &HostRuntime, problem: &str, name: &str) -> Option<File> {
-    if name == problem {
-        return None;
-    }
-    File::create(rt, name).ok()
-}
-
-/// Learns from a problem, and writes the answer, and to the file a certificate. Returns the status of the answer, and whether all of the
-/// certificate was written.
-fn learn_into<E: Sink>(
-    rt: &HostRuntime,
-    request: &Request<'_>,
-    limits: &SearchLimits,
-    problem: &Problem,
-    file: File,
-    errors: &mut E,
-) -> (Result<u8, EngineFault>, bool) {
-    let Ok(writer) = ClauseWriter::new(rt.alloc(), problem, CountedWriter::new(file)) else {
-        return (Err(EngineFault::Memory), false);
-    };
-    let mut sink = CountedWriter::new(rt.stdout());
-    let mut watch = CertifyingWatch {
-        watch: LearnWatch::new(rt, limits.time, errors, line_style(rt, request.progress)),
-        writer,
-    };
-    let settings = learner_settings(request);
-    let status = learn_problem(rt.alloc(), problem, settings, &mut watch, &mut sink);
-    watch.watch.end();
-    (status, watch.writer.end())
-}
-
-/// Reads back a certificate that was written of a problem without a cover, and returns what became of it.
-fn fate_of(rt: &HostRuntime, problem: &Problem, name: &str, is_whole: bool) -> CertificateFate {
-    if !is_whole {
-        return CertificateFate::Unwritten;
-    }
-    if !is_plain(rt, name) {
-        return CertificateFate::Unread;
-    }
-    match open_file(rt, name) {
-        Ok(file) => test_written(rt.alloc(), problem, &mut CountedReader::new(file)),
-        Err(_) => CertificateFate::Unread,
-    }
-}
-
 /// Runs `simulate` on a file, and returns the exit status.
 fn run_simulate(rt: &HostRuntime, settings: &Settings<'_>) -> u8 {
     let mut errors = CountedWriter::new(rt.stderr());
@@ -451,15 +345,15 @@ fn run_request<R: Threads + Wait + Clock + Net + Sync>(
     request: &Request<'_>,
 ) -> u8 {
     let settings = &request.settings;
+    if let Some(name) = request.certificate {
+        return run_certified(rt, request, name);
+    }
     match settings.mode {
         Mode::Answer => run_answer(rt, threads, request),
         Mode::Alone => run_alone(rt, request),
         Mode::Check => run_check(rt, request),
         Mode::Why => run_why(rt, settings),
-        Mode::Learn => match request.certificate {
-            Some(name) => run_certified(rt, request, name),
-            None => run_learn(rt, request),
-        },
+        Mode::Learn => run_learn(rt, request),
         Mode::Simulate => run_simulate(rt, settings),
         Mode::Solve => run_solve(rt, threads, request),
     }

@@ -12,7 +12,7 @@ use std::io;
 use std::io::{ErrorKind, Write};
 
 /// Items any two of which are an option, an odd number of them.
-const SEVEN: &str =
+pub(crate) const SEVEN: &str =
     "a b c d e f g\na b\na c\na d\na e\na f\na g\nb c\nb d\nb e\nb f\nb g\nc d\nc e\nc f\nc g\nd e\nd f\nd g\ne f\ne g\nf g\n";
 
 /// A watch that looks on.
@@ -27,9 +27,9 @@ impl LearnerWatch for LooksOn {
 
 /// A writer that takes so many bytes.
 #[derive(Drop)]
-struct Narrow<'a> {
-    text: &'a mut Vec<u8>,
-    room: usize,
+pub(crate) struct Narrow<'a> {
+    pub(crate) text: &'a mut Vec<u8>,
+    pub(crate) room: usize,
 }
 
 impl<'a> Write for Narrow<'a> {

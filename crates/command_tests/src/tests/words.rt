@@ -248,7 +248,7 @@ fn reads_whether_to_say_what_an_answer_rests_on(rt: HostRuntime) {
 }
 
 /// Words that name a file for a certificate, or don't.
-static CERTIFICATES: [(&[&str], Option<&str>); 5] = [
+static CERTIFICATES: [(&[&str], Option<&str>); 8] = [
     (&["solve_cli", "learn", "a.dlx"], None),
     (
         &["solve_cli", "learn", "a.dlx", "--certificate", "b"],
@@ -263,6 +263,22 @@ static CERTIFICATES: [(&[&str], Option<&str>); 5] = [
         Some(""),
     ),
     (&["solve_cli", "learn", "--", "--certificate"], None),
+    (
+        &[
+            "solve_cli",
+            "alone",
+            "a.dlx",
+            "--unlimited",
+            "--certificate",
+            "b",
+        ],
+        Some("b"),
+    ),
+    (&["solve_cli", "alone", "a.dlx", "--unlimited"], None),
+    (
+        &["solve_cli", "why", "a.dlx", "--certificate", "b"],
+        Some("b"),
+    ),
 ];
 
 #[test]
@@ -308,7 +324,7 @@ fn reads_whether_there_is_a_limit(rt: HostRuntime) {
 }
 
 /// Each with the status.
-static WORDS: [(&[&str], u8); 76] = [
+static WORDS: [(&[&str], u8); 79] = [
     (&["solve_cli"], 2),
     (&["solve_cli", "--help"], 0),
     (&["solve_cli", "--version"], 0),
@@ -347,6 +363,19 @@ static WORDS: [(&[&str], u8); 76] = [
     (&["solve_cli", "alone", "a", "--seconds", "5"], 9),
     (&["solve_cli", "alone", "a", "--seconds", "0"], 2),
     (&["solve_cli", "alone", "a", "--certificate", "b"], 2),
+    (
+        &[
+            "solve_cli",
+            "alone",
+            "a",
+            "--seconds=5",
+            "--certificate",
+            "b",
+        ],
+        2,
+    ),
+    (&["solve_cli", "why", "a", "--certificate"], 2),
+    (&["solve_cli", "answer", "a", "--certificate", "b"], 2),
     (&["solve_cli", "learn", "a", "--certificate"], 2),
     (&["solve_cli", "check", "a", "b", "--seconds", "5"], 9),
     (&["solve_cli", "check", "a", "b", "--seconds", "1000001"], 2),
