@@ -1,6 +1,7 @@
 //! `learn` over texts in memory, each with one cover or none; the expected values were worked out by hand.
 
 mod answers;
+mod causes;
 mod memory;
 
 use dlx_reader::{CountedReader, CountedWriter};
