@@ -3,9 +3,10 @@
 
     python3 bench/implied.py [--seeds N] [--seconds N] [--kind KIND ..] [--write FOLDER]
 
-The kinds: `class`, one class with 30 lessons in 30 periods, which are secondary, and seven teachers; `school`, three such classes with 25; `edges`, the
-edges of a complete graph of 13 points in 12 colours, none of which is twice at a point; `differences`, two blocks of four numbers modulo 25 with each
-difference at most once; `exams`, 30 exams in nine slots, ten of which have a student in common by twos. The first two have a cover, the others none.
+The kinds: `class`, one class with 30 lessons in 30 periods, which are secondary, and seven teachers; `school`, three such classes with 25; `edges`,
+the edges of a complete graph of 13 points in 12 colours, none of which is twice at a point; `differences`, two blocks of four numbers modulo 25 with
+each difference at most once; `exams`, 30 exams in nine slots, ten of which have a student in common by twos; `crossing`, lessons of four classes and
+teachers each, of which 13 share one by twos, in 12 periods. The first two have a cover, the others none.
 
 N instances are drawn of each kind (default 3). A cell has the processor seconds, reading included, or a dash where there is no answer within so many
 seconds (default 10). The answers are compared, and each cover is counted by `check`. With --write the problems are written, and nothing is run.
@@ -33,7 +34,7 @@ HERE = os.path.dirname(os.path.abspath(__file__))
 sys.path.insert(0, os.path.join(HERE, "..", "scripts"))
 from built import SOLVE_CLI, number_from_one, parser_of, want_program  # noqa: E402
 
-POINTS, MODULUS, BLOCK, EXAMS, SLOTS, CLIQUE = 13, 25, 4, 30, 9, 10
+POINTS, MODULUS, BLOCK, EXAMS, SLOTS, CLIQUE, LINES = 13, 25, 4, 30, 9, 10, 13
 
 
 def write(path: str, primary: list[str], options: list[list[str]]) -> None:
@@ -95,15 +96,27 @@ def exams(path: str, draw: random.Random) -> None:
     for a, b in pairs:
         students[a].append(f"s{a}-{b}")
         students[b].append(f"s{a}-{b}")
-    # (a student and a slot are one item: 1,000 items hold those of some hundred pairs, so each slot has all pairs of the clique and few others)
-    room = (1000 - EXAMS) // SLOTS
+    # (a student and a slot are one item: 900 items hold those of some hundred pairs, so each slot has all pairs of the clique and few others, and of
+    # the 1,000 items that a file may have, some are left for cliques)
+    room = (900 - EXAMS) // SLOTS
     kept = {f"s{a}-{b}" for a, b in sorted(pairs, key=lambda pair: not set(pair) <= clique)[:room]}
     write(path, [f"e{exam}" for exam in range(EXAMS)],
           [[f"e{exam}", *(f"{student}-{slot}" for student in students[exam] if student in kept)] for exam in range(EXAMS) for slot in range(SLOTS)])
 
 
+def crossing(path: str, draw: random.Random) -> None:
+    """The 13 lines of the projective plane of order 3 as lessons, its points as classes and teachers, and as many lessons of two others of these."""
+    lines = [[(point + shift) % LINES for point in (0, 1, 3, 9)] for shift in range(LINES)]
+    lessons = [(f"x{number}", line) for number, line in enumerate(lines)]
+    lessons += [(f"y{number}", draw.sample(range(LINES, 2 * LINES), 2)) for number in range(LINES)]
+    draw.shuffle(lessons)
+    write(path, [name for name, _ in lessons],
+          [[name, *(f"p{who}-{period}" for who in whose)] for name, whose in lessons for period in range(LINES - 1)])
+
+
 KINDS: dict[str, tuple[Callable[[str, random.Random], None], bool]] = {
-    "class": (one_class, True), "school": (school, True), "edges": (edges, False), "differences": (differences, False), "exams": (exams, False)}
+    "class": (one_class, True), "school": (school, True), "edges": (edges, False), "differences": (differences, False), "exams": (exams, False),
+    "crossing": (crossing, False)}
 
 
 def asked(words: list[str], file: str, seconds: int) -> Told:

@@ -123,6 +123,13 @@ def lessons(count: int, periods: int, length: int = 1, teachers: Sequence[str] =
     return lines([f"l{k}" for k in range(count)], busy, options)
 
 
+def exams(count: int, slots: int) -> str:
+    """Exams, each two of which have a student in common."""
+    pairs = list(itertools.combinations(range(count), 2))
+    return lines([f"e{exam}" for exam in range(count)], [f"{a}-{b}.{slot}" for a, b in pairs for slot in range(slots)],
+                 [[f"e{exam}", *(f"{a}-{b}.{slot}" for a, b in pairs if exam in (a, b))] for exam in range(count) for slot in range(slots)])
+
+
 def pigeons(count: int) -> str:
     return lines([f"p{k}" for k in range(count)], [f"h{k}" for k in range(1, count)],
                  [[f"p{k}", f"h{hole}"] for k in range(count) for hole in range(1, count)])
@@ -157,6 +164,8 @@ FAMILIES = [
     *((f"{size} Langford pairs", langford(size), "weights modulo 2" if size % 4 in (1, 2) else None) for size in (4, 5, 13, 14, 17, 18, 22)),
     *((f"edges of {points} points in {colours} colours", edges(points, colours), wanted) for points, colours, wanted in (
         (5, 4, "just enough room, weights modulo 2"), (5, 5, None), (6, 5, None), (13, 12, "just enough room, weights modulo 2"))),
+    *((f"{count} exams in {slots} slots", exams(count, slots), wanted) for count, slots, wanted in (
+        (4, 3, "cliques, too little room: 4 needed, 3 there"), (4, 4, None), (10, 9, "cliques, too little room: 10 needed, 9 there"), (10, 10, None))),
     ("triples of 9 points", triples(9), None),
     ("triples of 10 points", triples(10), "weights modulo 2"),
     ("triples of 11 points", triples(11), "weights modulo 3"),
@@ -171,8 +180,9 @@ def said_of(text: str) -> Optional[str]:
     reason = Reason(written)
     if not (is_checked(text, written) and reason.holds(read_problem(text.encode()))):
         return "a reason that doesn't hold"
-    return "just enough room, " * bool(reason.full_rooms) + (f"weights modulo {reason.modulus}" if reason.modulus else
-                                                             f"too little room: {sum(reason.needs.values())} needed, {sum(reason.rooms.values())} there")
+    kind = (f"weights modulo {reason.modulus}" if reason.modulus else
+            f"too little room: {sum(reason.needs.values())} needed, {sum(reason.rooms.values())} there")
+    return "cliques, " * bool(reason.cliques) + "just enough room, " * bool(reason.full_rooms) + kind
 
 
 # ---- the examples
@@ -219,6 +229,12 @@ def odd_words(folder: str) -> None:
         expect(repr(wrong), checked(wrong)[0] == 1)
     room = "none\ntoo little room\nneed 1 a\nneed 1 c\nroom 1 b\n"
     expect("room", checked(room) == (0, "right"))
+    held = "a b c | x y z\na x y\nb y z\nc x z\na x:1\n"
+    cliques = "none\ncliques\nclique q 0 1 2\ntoo little room\nneed 1 b\nneed 1 c\nroom 1 q\n"
+    expect("cliques", checked(cliques, text=held) == (0, "right"))
+    for wrong in ("clique q 0 1 3", "clique q 0 1 4", "clique q 0 1 -2", "clique x 0 1 2", "clique q 0 1 2\nclique q 0", "clique q 1",
+                  "clique q:1 0 1 2"):
+        expect(wrong, checked(cliques.replace("clique q 0 1 2", wrong), text=held)[0] == 1)
     expect("a need too many", checked(room + "need 1 x\n")[0] == 1)
     expect("just room", checked(room + "room 1 c\n")[0] == 1)
     for what, text in (("an unknown item", "a b\na c\n"), ("an item twice in an option", "a b\na b a b\n"), ("no items", "")):
@@ -240,7 +256,8 @@ def main() -> int:
     with tempfile.TemporaryDirectory() as folder:
         odd_words(folder)
     print(f"{count} random problems with a cover, {count} without: {found['too lit']} have too little room, {found['weights']} weights, "
-          f"{found['just en']} a reason once items are primary that each cover uses, {found['']} no reason that is found")
+          f"{found['just en']} a reason once items are primary that each cover uses, {found['cliques']} once cliques are items, "
+          f"{found['']} no reason that is found")
     return trial.end()
 
 

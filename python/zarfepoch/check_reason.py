@@ -5,12 +5,15 @@
 REASON is a file with what `why` wrote, or - for the standard input. No search and no part of the program is needed: an exact cover names
 each primary item once. So where the weights in each option are a multiple of the modulus, all weights together are one; and where
 each option brings as much room as it needs, all needs together are at most all rooms. Where they are as much, the cover also names each item that
-has room once, so a reason behind it counts these as primary.
+has room once, so a reason behind it counts these as primary. Of a clique, options each two of which clash, the cover has one at most, so an item that
+all of them name may have room, too.
 
 The exit status is 0 where the reason holds, 1 where it doesn't, 2 for a mistake on the command line, 3 for a file that can't be read, or a FILE
 that the program refuses.
 """
 from __future__ import annotations
+
+import itertools
 
 from .command_words import parser_of
 from .cover_files import read_bytes, read_problem, refusal, run, shown, stop, Unreadable
@@ -26,6 +29,12 @@ def check(problem: Lines, reason: Lines) -> str:
     primary = set(items[:bar])
     options = [option for option in options if primary.intersection(option)]    # the others are in no cover
     lines = reason[1:]
+    if lines[0] == [b"cliques"]:
+        end = next(place for place, words in enumerate(lines) if place and words[0] != b"clique")
+        wrong = add_cliques(items, options, lines[1:end])
+        if wrong:
+            return wrong
+        lines = lines[end:]
     if lines[0] == [b"just", b"enough", b"room"]:
         end = next(place for place, words in enumerate(lines) if words[0] in (b"weights", b"too"))
         _, needs, rooms = amounts_of(lines[1:end])
@@ -60,6 +69,34 @@ def amounts_of(lines: Lines) -> list[dict[bytes, int]]:
             raise ValueError("a weight, a need or a room isn't a number from 0")
         amounts[kind][name] = int(number)
     return list(amounts.values())
+
+
+def add_cliques(items: list[bytes], options: Lines, lines: Lines) -> str:
+    """Adds the name of each clique to its options. What is wrong with a clique; nothing where all are right."""
+    names = {word.lstrip(b"|") for word in items}
+    added: Lines = [[] for _ in options]
+    for _, name, *numbers in lines:
+        if name in names or b":" in name or b"|" in name:
+            return f"this name of a clique is that of an item or of another clique, or is none: {shown(name)}"
+        names.add(name)
+        if not all(number.isdigit() for number in numbers):
+            raise ValueError("the number of an option isn't one from 0")
+        clique = sorted({int(number) for number in numbers})
+        for one, other in itertools.combinations(clique, 2):
+            if not clash(options[one], options[other]):
+                both = f"{shown(b' '.join(options[one]))} and {shown(b' '.join(options[other]))}"
+                return f"options {one} and {other} of {shown(name)} don't clash: {both}"
+        for number in clique:
+            added[number].append(name)
+    for option, more in zip(options, added):
+        option += more
+    return ""
+
+
+def clash(one: list[bytes], other: list[bytes]) -> bool:
+    """Whether both options name an item to which they don't give the same colour."""
+    colours = {name: colour for name, _, colour in (word.partition(b":") for word in other)}
+    return any(name in colours and (not colour or colours[name] != colour) for name, _, colour in (word.partition(b":") for word in one))
 
 
 def unfit(options: Lines, needs: dict[bytes, int], rooms: dict[bytes, int]) -> str:

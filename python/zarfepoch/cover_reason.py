@@ -1,18 +1,20 @@
 """Reasons for `none` as `solve_cli why` writes them: read, added up again, and told in words.
 
 A reason is either weights of primary items modulo a number, or what primary items need and the room that items have for it. Room that is just
-enough may stand before it: then each cover uses the items that have some, and they count as primary behind it.
+enough may stand before it: then each cover uses the items that have some, and they count as primary behind it. Cliques may stand before that, options
+each two of which clash: each is an item, too, and a cover has one option of it at most.
 `docs/FORMAT.md` has the text; `holds` is all that has to be believed.
 """
 from __future__ import annotations
 
+import itertools
 import re
 import subprocess
 from collections.abc import Callable, Iterable, Iterator
 from math import gcd
 from typing import Optional
 
-from .cover_files import Problem, shown
+from .cover_files import Option, Problem, shown
 from .fault_words import listed, plural, quoted
 
 # numbers by the names of their items; what items are called
@@ -21,15 +23,22 @@ Named = Callable[[bytes], str]
 
 SHOWN = 12
 LINE = re.compile(rb"(weigh|need|room) ([0-9]+) (\S+)")
-ENOUGH = b"just enough room"
+CLIQUE = re.compile(rb"clique (\S+)((?: [0-9]+)*)")
+CLIQUES, ENOUGH = b"cliques", b"just enough room"
 HEAD = re.compile(rb"weights modulo [0-9]+|too little room|just enough room")
 
 
 class Reason:
-    """The weights, needs and rooms of a reason, by names, and its modulus, 0 where it has none; those of room that is just enough before it."""
+    """The weights, needs and rooms of a reason, by names, and its modulus, 0 where it has none; those of room that is just enough before it; and the
+    numbers of the options of cliques, by their names."""
 
     def __init__(self, text: bytes) -> None:
         lines = text.removeprefix(b"none\n").rstrip(b"\n").split(b"\n")
+        self.cliques: dict[bytes, list[int]] = {}
+        if lines[0] == CLIQUES:
+            own = list(itertools.takewhile(lambda line: line.startswith(b"clique "), lines[1:]))
+            self.cliques = read_cliques(own)
+            lines = lines[1 + len(own):] or [b""]
         heads = [line for line in lines if HEAD.fullmatch(line)]
         if heads != lines[:1] + heads[1:] or len(heads) != 1 + (lines[0] == ENOUGH) or heads[-1] == ENOUGH:
             raise ValueError("this is no reason: not one kind, with just enough room before it or not")
@@ -46,9 +55,13 @@ class Reason:
     def holds(self, problem: Problem) -> bool:
         """Whether the reason shows that the problem has no cover."""
         coloured = {name for option in problem.options for name, colour in zip(option.names, option.colours) if colour is not None}
+        if not are_cliques(problem, self.cliques):
+            return False
+        options = [[*option.names, *(name for name, numbers in self.cliques.items() if place in numbers)]
+                   for place, option in enumerate(problem.options)]
 
         def fit(needs: Amounts, rooms: Amounts) -> bool:
-            return coloured.isdisjoint(rooms) and all(added(needs, option.names) <= added(rooms, option.names) for option in problem.options)
+            return coloured.isdisjoint(rooms) and all(added(needs, names) <= added(rooms, names) for names in options)
 
         primary = set(problem.primary_names())
         if not (primary.issuperset(self.full_needs) and sum(self.full_rooms.values()) <= sum(self.full_needs.values())
@@ -59,12 +72,17 @@ class Reason:
             return False
         if self.modulus:
             return (sum(self.weights.values()) % self.modulus != 0
-                    and all(added(self.weights, option.names) % self.modulus == 0 for option in problem.options))
+                    and all(added(self.weights, names) % self.modulus == 0 for names in options))
         return sum(self.rooms.values()) < sum(self.needs.values()) and fit(self.needs, self.rooms)
 
     def words(self, problem: Problem, named: Named = shown) -> list[str]:
         """Lines that say why there is no cover, in which items are named so."""
-        return [*full_words(self, named), *(weight_words(self, problem, named) if self.modulus else room_words(self, named))]
+        def named_all(name: bytes) -> str:
+            return shown(name) if name in self.cliques else named(name)
+
+        called = named_all if self.cliques else named
+        return [*full_words(self, called), *(weight_words(self, problem, called) if self.modulus else room_words(self, called)),
+                *clique_words(self, problem, named)]
 
     def line(self, problem: Problem) -> str:
         """The same in one line."""
@@ -88,12 +106,49 @@ def read_lines(lines: list[bytes], kinds: dict[bytes, Amounts]) -> None:
         kinds[found[1]][found[3]] = int(found[2])
 
 
+def read_cliques(lines: list[bytes]) -> dict[bytes, list[int]]:
+    """The options of cliques by their names; a ValueError where a line is none of a clique, or a name comes twice."""
+    cliques: dict[bytes, list[int]] = {}
+    for line in lines:
+        found = CLIQUE.fullmatch(line)
+        if not found or found[1] in cliques:
+            raise ValueError(f"this is no line of a reason: {shown(line)}")
+        cliques[found[1]] = sorted({int(number) for number in found[2].split()})
+    return cliques
+
+
+def clash(one: Option, other: Option) -> bool:
+    """Whether both options name an item to which they don't give the same colour."""
+    colours = dict(zip(other.names, other.colours))
+    return any(name in colours and (colour is None or colours[name] != colour) for name, colour in zip(one.names, one.colours))
+
+
+def are_cliques(problem: Problem, cliques: dict[bytes, list[int]]) -> bool:
+    """Whether none of these has the name of an item, and each two options of one clash."""
+    return (all(name not in problem.items and b":" not in name and b"|" not in name for name in cliques)
+            and all(number < len(problem.options) for numbers in cliques.values() for number in numbers)
+            and all(clash(problem.options[one], problem.options[other])
+                    for numbers in cliques.values() for one, other in itertools.combinations(numbers, 2)))
+
+
 def added(amounts: Amounts, names: Iterable[bytes]) -> int:
     return sum(amounts.get(name, 0) for name in names)
 
 
 def names_line(names: Iterable[bytes], named: Named) -> str:
     return f"  {listed([named(name) for name in names], SHOWN)}"
+
+
+# ---- cliques
+
+def clique_words(reason: Reason, problem: Problem, named: Named) -> Iterator[str]:
+    """For whom the options of each clique are."""
+    primary = set(problem.primary_names())
+    for name, numbers in itertools.islice(reason.cliques.items(), SHOWN):
+        owners = dict.fromkeys(next(own for own in problem.options[number].names if own in primary) for number in numbers)
+        yield f"  {shown(name)} is {plural(len(numbers), 'option')}, each two of which clash, of {listed([named(own) for own in owners], SHOWN)}"
+    if len(reason.cliques) > SHOWN:
+        yield f"  and {len(reason.cliques) - SHOWN:,} more are such, too"
 
 
 # ---- just enough room
