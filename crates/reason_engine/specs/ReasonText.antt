@@ -1,7 +1,8 @@
--- The lines of a reason: its kind, and a line for each item that counts.
+-- The lines of a reason: its kind, and a line for each item that counts; and those of cliques.
 use Rattle.std.specs.Prelude.{ℕ, List, [], ◌∷◌, ◌++◌, length, codes, ◌==◌, if◌then◌else◌}
 use Rattle.std.specs.Fmt.{decimal}
 use Rattle.std.specs.List.{flat_map, range_with_len}
+use Rattle.clash_cliques.specs.declared.clique.Clique.{Clique}
 use Rattle.cover_problem.specs.Problem.{Problem}
 use Rattle.cover_reasons.specs.Room.{Room, amount_of}
 use Rattle.cover_reasons.specs.declared.reason.Reason.{Reason}
@@ -25,3 +26,11 @@ room_text problem room = lines_text problem (codes "need") room.needs ++ lines_t
 abbrev pub kind_text : Problem → Reason → List ℕ
 kind_text problem (reasons.Weighed weights) = codes "weights modulo" ++ 32 ∷ decimal weights.modulus ++ codes "\n" ++ lines_text problem (codes "weigh") weights.list
 kind_text problem (reasons.TooLittleRoom room) = codes "too little room\n" ++ room_text problem room
+
+-- a space and the number
+abbrev pub number_text : ℕ → List ℕ
+number_text number = 32 ∷ decimal number
+
+-- the name of a clique and the numbers of its options
+abbrev pub clique_text : Clique → List ℕ
+clique_text clique = codes "clique " ++ clique.name ++ flat_map number_text clique.options ++ codes "\n"

@@ -1,11 +1,12 @@
-//! Why a problem has no exact cover: a reason of it as it stands, or with those items primary that each exact cover uses.
+//! Why a problem has no exact cover: a reason of it as it stands, with those items primary that each exact cover uses, or with items for cliques.
 
 ghost use Rattle.std.specs.Prelude.{◌≡◌, [], ◌++◌, codes, IfOk, IfSome};
 ghost use Rattle.cover_problem.specs.Prefix.{IsBarren};
 ghost use Rattle.reason_engine.specs.Causes.{IsCause, cause_text};
 ghost use Rattle.used_items.specs.Orders.{IsPromoted};
 
-use crate::text::{lines_of, promoted_lines_of};
+use crate::text::{clique_lines_of, lines_of, promoted_lines_of};
+use clash_cliques::{RoomByCliques, find_room_by_cliques};
 use cover_problem::Problem;
 use cover_reasons::{Reason, ReasonWatch, find_reason_until};
 use std::alloc::{AllocError, Global};
@@ -18,6 +19,8 @@ pub enum Cause {
     AsItStands(Reason),
     /// A reason of the problem with more items primary, and the room by which these are.
     ByUsedItems(WithUsedItems, Reason),
+    /// Too little room of the problem with items for cliques of options that clash.
+    ByCliques(RoomByCliques),
 }
 
 /// A cause by the problem that was made with more items primary, if a reason of that is found before the watch ends it. The only error is out
@@ -56,8 +59,38 @@ fn cause_by_used_items<W: ReasonWatch>(
     }
 }
 
-/// Why the problem has no exact cover, as it stands or with those items primary that each exact cover uses, if a reason is found before the
-/// watch ends that. Where none is found there may be a cover or none. The only error is out of memory.
+/// A cause by items for cliques. The only error is out of memory.
+fn cause_by_cliques<W: ReasonWatch>(
+    alloc: Global,
+    problem: &Problem,
+    watch: &mut W,
+) -> Result<Option<Cause>, AllocError>
+    ensures cause { IfOk result (λ found. IfSome found (IsCause problem.now)) }
+    ensures barren { IfOk result (λ found. IfSome found (λ cause. IsBarren problem.now [])) }
+{
+    match find_room_by_cliques(alloc, problem, watch)? {
+        Some(by) => Ok(Some(Cause::ByCliques(by))),
+        None => Ok(None),
+    }
+}
+
+/// A cause by what the problem implies: items that each exact cover uses, or cliques. The only error is out of memory.
+fn cause_by_implied<W: ReasonWatch>(
+    alloc: Global,
+    problem: &Problem,
+    watch: &mut W,
+) -> Result<Option<Cause>, AllocError>
+    ensures cause { IfOk result (λ found. IfSome found (IsCause problem.now)) }
+    ensures barren { IfOk result (λ found. IfSome found (λ cause. IsBarren problem.now [])) }
+{
+    match cause_by_used_items(alloc, problem, watch)? {
+        Some(cause) => Ok(Some(cause)),
+        None => cause_by_cliques(alloc, problem, watch),
+    }
+}
+
+/// Why the problem has no exact cover, as it stands, with those items primary that each exact cover uses, or with items for cliques of options
+/// that clash, if that is found before the watch ends it. Where none is found there may be a cover or none. The only error is out of memory.
 pub fn find_cause_until<W: ReasonWatch>(
     alloc: Global,
     problem: &Problem,
@@ -68,7 +101,7 @@ pub fn find_cause_until<W: ReasonWatch>(
 {
     match find_reason_until(alloc, problem, watch)? {
         Some(reason) => Ok(Some(Cause::AsItStands(reason))),
-        None => cause_by_used_items(alloc, problem, watch),
+        None => cause_by_implied(alloc, problem, watch),
     }
 }
 
@@ -79,6 +112,7 @@ pub fn cause_lines(alloc: Global, problem: &Problem, cause: &Cause) -> Result<Ve
     match cause {
         Cause::AsItStands(reason) => lines_of(alloc, problem, reason),
         Cause::ByUsedItems(made, reason) => promoted_lines_of(alloc, problem, made, reason),
+        Cause::ByCliques(by) => clique_lines_of(alloc, by),
     }
 }
 

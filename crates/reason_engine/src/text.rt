@@ -1,11 +1,13 @@
 //! The text of a reason.
 
 ghost use Rattle.std.specs.Prelude.{◌≡◌, ◌<◌, [], ◌∷◌, ◌++◌, length, codes, IfOk, OnOk};
+ghost use Rattle.std.specs.List.{flat_map};
 ghost use Rattle.std.specs.Fmt.{decimal};
 ghost use Rattle.cover_reasons.specs.Room.{amount_of};
 ghost use Rattle.dlx_reader.specs.Writing.{name_text};
-ghost use Rattle.reason_engine.specs.ReasonText.{line_text, lines_text, room_text, kind_text};
+ghost use Rattle.reason_engine.specs.ReasonText.{line_text, lines_text, room_text, kind_text, number_text, clique_text};
 
+use clash_cliques::{Clique, RoomByCliques};
 use cover_problem::Problem;
 use cover_reasons::{Reason, Room, Weights};
 use itoa::Buffer;
@@ -161,5 +163,49 @@ pub fn promoted_lines_of(
     let mut text = Vec::from_slice(alloc, b"just enough room\n")?;
     push_room(&mut text, problem, &made.room)?;
     push_reason(&mut text, &made.problem, reason)?;
+    Ok(text)
+}
+
+/// Adds these numbers to a text, a space before each.
+#[tactic(auto, using(crate::proofs::Lines::pieces_more, crate::proofs::Lines::all_pieces))]
+fn push_numbers(text: &mut Vec<u8>, numbers: &[u16]) -> Result<(), AllocError>
+    ensures { OnOk result (text.new.items
+        ≡ text.old.items ++ flat_map number_text numbers.now) }
+{
+    for number in numbers {
+        push_number(text, u32::from(*number))?;
+    }
+    Ok(())
+}
+
+/// Adds the line of a clique to a text.
+fn push_clique(text: &mut Vec<u8>, clique: &Clique) -> Result<(), AllocError>
+    ensures { OnOk result (text.new.items ≡ text.old.items ++ clique_text clique.now) }
+{
+    push_two(text, b"clique ", clique.name.as_slice())?;
+    push_numbers(text, clique.options.as_slice())?;
+    text.extend_from_slice(b"\n")
+}
+
+/// Adds the lines of cliques to a text.
+#[tactic(auto, using(crate::proofs::Lines::pieces_more, crate::proofs::Lines::all_pieces))]
+fn push_cliques(text: &mut Vec<u8>, cliques: &[Clique]) -> Result<(), AllocError>
+    ensures { OnOk result (text.new.items ≡ text.old.items ++ flat_map clique_text cliques.now) }
+{
+    for clique in cliques {
+        push_clique(text, clique)?;
+    }
+    Ok(())
+}
+
+/// Returns the lines of cliques, and of room that is too little in the problem with items for these. The only error is out of memory.
+pub fn clique_lines_of(alloc: Global, by: &RoomByCliques) -> Result<Vec<u8>, AllocError>
+    ensures { IfOk result (λ text. text.items ≡ codes "cliques\n"
+        ++ flat_map clique_text by.now.cliques.items
+        ++ kind_text by.now.problem (Reason.TooLittleRoom by.now.room)) }
+{
+    let mut text = Vec::from_slice(alloc, b"cliques\n")?;
+    push_cliques(&mut text, &by.cliques)?;
+    push_lack(&mut text, &by.problem, &by.room)?;
     Ok(text)
 }
