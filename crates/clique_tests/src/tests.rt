@@ -180,6 +180,7 @@ fn enough_slots(rt: HostRuntime) -> Result<(), Fail> {
 }
 
 /// A watch that ends the search at its first look.
+#[derive(Drop)]
 struct Ended;
 
 impl ReasonWatch for Ended {
