@@ -1,15 +1,15 @@
 -- A problem with a further secondary item, which options that clash by twos name, is a problem and has the same exact covers.
-use Rattle.std.proofs.Common.{◌≡◌, ℕ, suc, ◌+◌, ◌<◌, ◌≤◌, Bool, true, false, not, ◌&&◌, ◌||◌, ◌==◌, ◌⊎◌, cond, nat_eq, nat_le, nat_lt, List, [], ◌∷◌, ◌++◌, length, map, get_or, count_by, refl, sym, ap, ◌∙◌, subst, inl, inr, arith}
+use Rattle.std.proofs.Common.{◌≡◌, ℕ, suc, ◌+◌, ◌<◌, ◌≤◌, Bool, true, false, not, ◌&&◌, ◌==◌, ◌⊎◌, nat_eq, nat_le, nat_lt, List, [], ◌∷◌, ◌++◌, length, map, get_or, count_by, refl, sym, ap, ◌∙◌, subst, inl, inr, arith}
 use Rattle.std.specs.Cmp.Lexicographic.{pointwise}
-use Rattle.std.specs.List.{list_all, list_any, range_with_len, sum_by}
+use Rattle.std.specs.List.{list_any, range_with_len, sum_by}
 use Rattle.std.proofs.lemmas.Bool.{and_parts, both_ways, cases_Bool, cases_eq, cases_lt, eqb-true, false_from_ne_true, leb-true, lt-ltb, ltb-true, not-true, or_cases}
 use Rattle.std.proofs.lemmas.List.{get_or_past, length_push}
 use Rattle.std.proofs.lemmas.List.FromFn.{fill_by_all, get_or-map-range_with_len, length-map-range_with_len}
-use Rattle.cover_problem.specs.ExactCover.{IsExactCover, IsInOneColour, uses}
+use Rattle.cover_problem.specs.ExactCover.{IsExactCover, uses}
 use Rattle.cover_problem.specs.Numbers.{is_in, is_distinct, are_below, some_below}
 use Rattle.cover_problem.specs.Prefix.{are_options, clash}
-use Rattle.cover_problem.specs.Problem.{Problem, IsProblem, items_of, colours_of, colour_beside, names_item, colour_of, option_numbers, is_name, names_differ}
-use Rattle.cover_problem.proofs.Among.{all_at, all_by, range_high, range_in}
+use Rattle.cover_problem.specs.Problem.{Problem, IsProblem, items_of, colours_of, colour_beside, names_item, colour_of, option_numbers, is_name}
+use Rattle.cover_problem.proofs.Among.{all_at, all_by, range_high}
 use Rattle.cover_problem.proofs.Apart.{chosen_apart}
 use Rattle.cover_problem.proofs.Colours.{colours_long, colours_below}
 use Rattle.cover_problem.proofs.Counts.{count_at_most, count_none}

@@ -1,7 +1,6 @@
 -- Several cliques, one after the other.
-use Rattle.std.proofs.Common.{◌≡◌, ℕ, Bool, true, ◌&&◌, List, [], ◌∷◌, refl, ◌∙◌}
+use Rattle.std.proofs.Common.{◌≡◌, true, List, [], ◌∷◌, refl, ◌∙◌}
 use Rattle.std.proofs.lemmas.Bool.{and_parts}
-use Rattle.cover_problem.specs.ExactCover.{IsExactCover}
 use Rattle.cover_problem.specs.Prefix.{IsBarren}
 use Rattle.cover_problem.specs.Problem.{Problem, IsProblem}
 use Rattle.used_items.specs.Covers.{HaveSameCovers}

@@ -1,7 +1,7 @@
 //! A problem with an item for each of some cliques.
 
 ghost use Rattle.std.specs.Prelude.{◌≡◌, true, IfOk, IfSome};
-ghost use Rattle.clash_cliques.specs.Cliques.{IsWithCliques};
+ghost use Rattle.clash_cliques.specs.Cliques.{are_cliques, with_cliques, IsWithCliques};
 
 use crate::adding::with_clique;
 use crate::clique::Clique;

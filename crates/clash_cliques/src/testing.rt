@@ -1,10 +1,11 @@
 //! Whether options are a clique.
 
-ghost use Rattle.std.specs.Prelude.{◌≡◌, ◌<◌, ◌≤◌, length, nat_eq};
+ghost use Rattle.std.specs.Prelude.{◌≡◌, ◌<◌, ◌≤◌, ◌↔◌, length, nat_eq, not, IsTrue};
 ghost use Rattle.std.specs.Cmp.Lexicographic.{pointwise};
-ghost use Rattle.std.specs.List.{list_any, sum_by};
-ghost use Rattle.cover_problem.specs.Prefix.{AreOptions};
-ghost use Rattle.cover_problem.specs.Problem.{is_name};
+ghost use Rattle.std.specs.List.{list_all, list_any, sum_by};
+ghost use Rattle.cover_problem.specs.Numbers.{is_in};
+ghost use Rattle.cover_problem.specs.Prefix.{are_options, AreOptions};
+ghost use Rattle.cover_problem.specs.Problem.{forbidden, is_name};
 ghost use Rattle.clash_cliques.specs.Cliques.{clashes_with, clash_by_twos, has_room_for, is_clique};
 
 use crate::clique::Clique;
@@ -49,11 +50,21 @@ fn is_allowed(byte: u8) -> bool
     !matches!(byte, 0 | 9..=13 | 32 | 58 | 124)
 }
 
+/// Whether no name has any of these bytes.
+fn are_allowed(bytes: &[u8]) -> bool
+    ensures { result ≡ list_all (λ byte. not (is_in forbidden byte)) bytes.now }
+{
+    bytes.iter().all(|byte| is_allowed(*byte))
+}
+
 /// Whether the bytes are a name.
 fn is_name(bytes: &[u8]) -> bool
     ensures { result ≡ is_name bytes.now }
 {
-    !bytes.is_empty() && bytes.len() <= MOST_BYTES && bytes.iter().all(|byte| is_allowed(*byte))
+    if bytes.is_empty() || bytes.len() > MOST_BYTES {
+        return false;
+    }
+    are_allowed(bytes)
 }
 
 /// Whether an item has this name.
