@@ -82,9 +82,9 @@ fn cases_are_met_again_and_dropped(rt: HostRuntime) {
     let mut dropping = Vec::new(rt.alloc());
     search(rt.alloc(), NINE, 8, usize::MAX, &mut dropping);
     assert!(rt; lines_with(&dropping, b'=') > 0 && lines_with(&dropping, b'-') > 0);
-    // (eight are held, and the last three are kept behind the last line of a case)
-    let most = lines_with(&dropping, b'-').saturating_add(11);
-    assert!(rt; lines_with(&dropping, b'!') == most);
+    // (eight are held, and those of one way are kept behind the last line of a case: four at most)
+    let most = lines_with(&dropping, b'-').saturating_add(12);
+    assert!(rt; lines_with(&dropping, b'!') <= most);
 }
 
 #[test]
