@@ -1,5 +1,5 @@
 -- The command line of the program, as the shape of a clap command, and what its words spell.
-use Rattle.std.specs.Prelude.{◌≡◌, ◌≢◌, ◌≤◌, ◌<◌, ◌^◌, ◌↔◌, ℕ, Bool, List, [], ◌∷◌, Option, Some, None, codes, is_some, option_map, true, false}
+use Rattle.std.specs.Prelude.{◌≡◌, ◌≢◌, ◌<◌, ◌^◌, ◌↔◌, ℕ, Bool, List, [], ◌∷◌, Option, Some, None, codes, is_some, option_map, true, false}
 use Rattle.std.specs.Str.Parse.{IsNumeral, digits_value}
 use Rattle.clap.specs.declared.builder.action.ArgAction.TheVariants.{SetTrue}
 use Rattle.clap.specs.declared.error.kind.ErrorKind.{ErrorKind}

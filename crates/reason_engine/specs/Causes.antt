@@ -15,10 +15,10 @@ use Rattle.used_items.specs.Orders.{IsPromoted}
 abbrev pub IsCause : Problem → Cause → Type 0
 IsCause problem (causes.AsItStands reason) = holds_of problem reason ≡ true
 IsCause problem (causes.ByUsedItems made reason) = IsPromoted problem made.room made.problem × (holds_of made.problem reason ≡ true)
-IsCause problem (causes.ByCliques by) = IsWithCliques problem by.cliques by.problem × (is_too_little by.problem by.room ≡ true)
+IsCause problem (causes.ByCliques by) = IsWithCliques problem by.cliques.items by.problem × (is_too_little by.problem by.room ≡ true)
 
 -- its lines: the kind of the reason and what counts, behind the room that is just enough or the cliques, if it is by these
 abbrev pub cause_text : Problem → Cause → List ℕ
 cause_text problem (causes.AsItStands reason) = kind_text problem reason
 cause_text problem (causes.ByUsedItems made reason) = codes "just enough room\n" ++ room_text problem made.room ++ kind_text made.problem reason
-cause_text problem (causes.ByCliques by) = codes "cliques\n" ++ flat_map clique_text by.cliques ++ kind_text by.problem (reasons.TooLittleRoom by.room)
+cause_text problem (causes.ByCliques by) = codes "cliques\n" ++ flat_map clique_text by.cliques.items ++ kind_text by.problem (reasons.TooLittleRoom by.room)
