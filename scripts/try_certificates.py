@@ -23,9 +23,9 @@ import tempfile
 from typing import Optional
 
 from built import number_from_one, parser_of, program_of, want_program
-from check_certificate import Checker, Wrong
 from expected import Trial
 from plain_search import Numbered, clash, live_options, read, search
+from zarfepoch.check_certificate import Checker, Wrong
 
 CHECK_CERTIFICATE = program_of("check_certificate")
 trial = Trial()

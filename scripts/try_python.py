@@ -235,7 +235,7 @@ def installed(folder: str) -> None:
     expect(f"no program: {ended.stderr}", ended.returncode == 1 and "NoProgram: there is no program solve_cli" in ended.stderr)
     said = ran(python, "-c", f"import doctest; print(doctest.testfile({README!r}, module_relative=False).failed)", cwd=TOP)
     expect(f"the page's examples: {said}", said == "0\n")
-    for module in ("explain", "why_none", "draw", "check_reason", "generate", "another", "split", "join"):
+    for module in ("explain", "why_none", "draw", "check_certificate", "check_reason", "generate", "another", "split", "join"):
         expect(f"the command {module}", ran(python, "-m", f"zarfepoch.{module}", "--help", cwd=elsewhere).startswith("usage: "))
         command = os.path.join(place, "bin", "zarfepoch-" + module.replace("_", "-"))
         said = ran(command, "--help", cwd=elsewhere)

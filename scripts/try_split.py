@@ -4,9 +4,10 @@
     python3 scripts/try_split.py [--short]
 
 Of 2,000 random problems (200 with --short), with secondary items and colours, the prefixes are compared with those of the branching of
-`plain_search.py`, and the covers of the parts, each with its prefix, with the covers of the whole: all of these are counted out. Two examples
-are compared with what was counted by hand. Then the parts of some problems are searched and joined, and `check` has to find the answer
-right; and parts and answers are deleted, changed, wrong, half written, and stopped by signals. Where GNU parallel is installed, it runs the parts
+`plain_search.py`, and the covers of the parts, each with its prefix, with the covers of the whole: all of these are counted out. Of those without a cover
+a plain search certifies the parts, and what `joined_certificates` makes of these, by cases and by clauses, has to be a certificate of the whole. Two
+examples are compared with what was counted by hand. Then the parts of some problems are searched and joined, and `check` has to find the answer
+right; and parts, answers and certificates are deleted, changed, wrong, half written, and stopped by signals. Where GNU parallel is installed, it runs the parts
 too, is killed, and goes on.
 
 It wants the program: (cd crates/solve_cli && rt run -- --version) builds it. The last line is 'N passed, M failed'. The exit status is 0 where all
@@ -32,6 +33,8 @@ from built import SOLVE_CLI, TOP, parser_of, want_program
 from zarfepoch.cover_files import read_problem
 from expected import Trial
 from plain_search import Numbered, branching, live_options, read
+from try_certificates import by_script, certificates
+from zarfepoch.joined_certificates import JOINERS, PartText
 from zarfepoch.search_parts import Split, Tree, list_text, places_in, split, texts_of
 
 PROGRAM = os.environ.get("ZARFEPOCH") or SOLVE_CLI
@@ -102,6 +105,15 @@ def numbers_of(found: Split) -> Taken:
     return Taken(list(found.cover.options) if found.cover else None, parts, barren)
 
 
+def try_joined(draw: random.Random, text: bytes, tree: Tree, found: Split) -> None:
+    """Joins certificates of the parts of a problem without a cover, of each kind."""
+    of_parts = [certificates(draw, part.decode("ascii")) for part in texts_of(tree, found)]
+    for place, kind in enumerate((b"cases", b"clauses")):
+        parts = [PartText(prefix, [line.encode() for line in both[place][2:]]) for prefix, both in zip(found.parts, of_parts)]
+        lines = [line.decode() for line in JOINERS[kind](tree, found, parts).text()]
+        expect(f"a joined certificate of\n{text!r}\n{lines}", by_script(text.decode(), lines) == "right")
+
+
 def try_random(draw: random.Random) -> str:
     """Tries one problem, and answers what its split came to."""
     text, number = random_text(draw).encode(), draw.choice([1, 2, 2, 3, 3, 4, 30])
@@ -128,6 +140,8 @@ def try_random(draw: random.Random) -> str:
         covers += [frozenset(prefix) | {live[place] for place in cover} for cover in covers_of(part_primary, part_options)]
     whole = covers_of(primary, options)
     expect(f"the covers of the parts of\n{text!r}", set(covers) == set(whole) and len(covers) == len(whole))
+    if not covers:
+        try_joined(draw, text, tree, found)
     return "parts with covers" if covers else "parts without one" if wanted.parts else "no part"
 
 
@@ -299,6 +313,52 @@ def damaged_answers(top: str) -> None:
     shutil.rmtree(folder)
 
 
+def certified(folder: str, out: str) -> Ran:
+    """What join.py says of a folder by its certificates; `check` has to find that of the whole right."""
+    said = script("join.py", folder, "--certificate", out)
+    if said.status == 1:
+        checked = ran(PROGRAM, "check", os.path.join(folder, "whole.dlx"), out)
+        expect(f"the certificate of {folder}: {checked}", (checked.status, checked.output) == (0, "right\n"))
+    return said
+
+
+def certificates_count(top: str) -> None:
+    """With --certificate an answer that is written by hand doesn't count, and a certificate counts without an answer."""
+    folder, out = made(top, "langford-5", 6), os.path.join(top, "whole.certificate")
+    parts = parts_in(folder)
+    paths = [part[:-4] + ".certificate" for part in parts]
+    for part in parts:
+        write(answer_of(part), "none\n")
+    said = certified(folder, out)
+    expect(f"answers by hand: {said}", said[:2] == (4, "no answer\n") and f"{len(parts)} of {len(parts)} parts have no certificate" in said.errors)
+    expect("all are left", script("join.py", folder, "--left", "--certificate", out).output.split() == parts)
+    for part, path in zip(parts, paths):
+        os.remove(answer_of(part))
+        expect("a part", ran(RUN_PART, part, "learn", "--certificate", path).status == 1)
+        os.remove(answer_of(part))
+    said = certified(folder, out)
+    expect(f"certificates alone: {said}", said == (1, "none\n", ""))
+    expect("they are no answers", joined(folder, top).status == 4)
+    was, whole = text_of(paths[2]), text_of(out)
+    by_cases = "\n".join(certificates(random.Random(1), text_of(parts[2]))[0])
+    for text, message in ((was[:-2] + "\n", f"{paths[2]} is wrong: line "), (was + "x\n", "expected the end"), ("", "is wrong: line 1: expected 'none'"),
+                          (text_of(paths[3]), f"{paths[2]} is wrong: line "), (by_cases, "parts 1 and 3 are of two kinds, by clauses and by cases")):
+        write(paths[2], text)
+        said = certified(folder, out)
+        expect(f"{text[:40]!r}..: {said}", (said.status, said.output) == (3, "") and message in said.errors and text_of(out) == whole)
+    write(paths[2], was)
+    said = certified(folder, os.path.join(top, "missing", "out"))
+    expect(f"no folder: {said}", (said.status, said.output) == (3, "") and "can't be written" in said.errors)
+    said = script("join.py", folder, "--certificate", "/dev/full")
+    expect(f"a full disk: {said}", (said.status, said.output) == (3, "") and "/dev/full can't be written" in said.errors)
+    write(answer_of(parts[0]), "cover 0\n")
+    said = certified(folder, out)
+    expect(f"a wrong answer beside its certificate: {said}", said.status == 3 and answer_of(parts[0]) in said.errors)
+    os.remove(answer_of(parts[0]))
+    expect("nothing else was left", sorted(os.listdir(top)) == sorted([os.path.basename(folder), "whole.certificate", "answer"]))
+    shutil.rmtree(folder)
+
+
 def covers_win(top: str) -> None:
     """A cover of one part is one of the whole, whatever there is of the others."""
     folder = made(top, "queens-8", 20)
@@ -432,7 +492,7 @@ def main() -> int:
     if not shutil.which("parallel"):
         print("GNU parallel isn't installed, and isn't tried")
     with_parallel = [by_parallel] if shutil.which("parallel") else []
-    for trials in (odd_words, whole_searches, damaged_parts, damaged_answers, covers_win, stopped, *with_parallel):
+    for trials in (odd_words, whole_searches, damaged_parts, damaged_answers, certificates_count, covers_win, stopped, *with_parallel):
         with tempfile.TemporaryDirectory() as top:
             trials(top)
     print(f"{count} random problems:", ", ".join(f"{came_to.count(what)} {what}" for what in sorted(set(came_to))))

@@ -19,10 +19,11 @@ def command_of(module: str) -> Callable[[], NoReturn]:
 
 # the commands by their names on the path, each with the module of its main function
 COMMANDS = {"zarfepoch": "__main__", **{"zarfepoch-" + name.replace("_", "-"): name for name in (
-    "another", "check_reason", "draw", "explain", "generate", "join", "split", "why_none")}}
+    "another", "check_certificate", "check_reason", "draw", "explain", "generate", "join", "split", "why_none")}}
 
 zarfepoch = command_of("__main__")
 another = command_of("another")
+check_certificate = command_of("check_certificate")
 check_reason = command_of("check_reason")
 draw = command_of("draw")
 explain = command_of("explain")

@@ -1,6 +1,6 @@
 """Joins the answers of a search's parts, which scripts/split.py wrote, to the answer of the whole.
 
-    python3 scripts/join.py FOLDER [--left]
+    python3 scripts/join.py FOLDER [--left] [--certificate OUT]
 
 It writes a cover of the whole file as soon as one part has one: the part's options with those of its prefix, counted here, in the order of the
 file. It writes `none` only if each part of the list has the answer `none`, and is to the byte what split.py writes now of FOLDER/whole.dlx; the list
@@ -9,6 +9,10 @@ part-7.dlx is what the program wrote, in part-7.answer. A file that is empty, or
 
 Standard error names each part that was changed or is missing, and each answer that is refused or is no cover. With --left it writes, in place of an
 answer, the paths of the parts that are still to be searched, a line each; after a cover there are none.
+
+With --certificate a part's `none` counts only by a certificate, in part-7.certificate, which is checked here: it takes the place of the answer. Where
+all parts have one, OUT gets the certificate of the whole that they make together, which is checked too. They have to be of one kind, all by cases or
+all by clauses. (docs/FORMAT.md describes them.) Where the whole isn't `none`, OUT is left as it was.
 
 It wants no built program. The exit status is 0 for a cover, 1 for `none`, 4 for `no answer`, 2 for a mistake on the command line, and 3 where,
 without a cover, something was changed, is missing or wrong.
@@ -20,20 +24,24 @@ import re
 import sys
 from typing import NamedTuple, Optional
 
+from .certified_parts import NotRight, body_of, join_certificates, kind_of
 from .command_words import parser_of
 from .cover_files import Answer, Unreadable, complain, lines_of, read_bytes, refusal, run, shown, stop
-from .search_parts import LIST, MOST_PARTS, WHOLE, Prefix, Tree, answer_name, cover_text, list_text, part_name, path_in, read_tree, split, texts_of
+from .joined_certificates import JOINERS, PartText
+from .search_parts import (LIST, MOST_PARTS, WHOLE, Prefix, Split, Tree, answer_name, certificate_name, cover_text, list_text, part_name, path_in,
+                           read_tree, split, texts_of)
 
 # so many faults are named; of the others only the number is given
 MOST_NAMED = 20
 
 
 class Part(NamedTuple):
-    """What there is of a part: a cover of the whole, `none`, or neither; and what is wrong, if anything is."""
+    """What there is of a part: a cover of the whole, `none`, or neither; what is wrong, if anything is; and of a certificate its kind."""
     number: int
     cover: Optional[bytes] = None
     is_none: bool = False
     fault: Optional[str] = None
+    kind: bytes = b""
 
 
 def wrong_in(answer: Answer, tree: Tree, prefix: Prefix) -> Optional[str]:
@@ -88,6 +96,17 @@ def compared(part: Part, folder: str, text: bytes) -> Part:
     return part._replace(is_none=False, fault=fault) if fault else part
 
 
+def certified(part: Part, folder: str, text: bytes) -> Part:
+    """A part that counts as `none` only by a certificate, whatever its answer says; a cover of the whole stays one."""
+    path = path_in(folder, certificate_name(part.number))
+    if part.cover or part.fault or not os.path.lexists(path):
+        return part._replace(is_none=False)
+    try:
+        return part._replace(is_none=True, kind=kind_of(text, path))
+    except (Unreadable, NotRight) as why:
+        return part._replace(is_none=False, fault=str(why))
+
+
 def number_in(folder: str) -> int:
     """The number of parts that split.py was given."""
     path = path_in(folder, LIST)
@@ -119,17 +138,24 @@ def tell(faults: list[str]) -> None:
         complain(f"and {len(faults) - MOST_NAMED} more")
 
 
-def outcome(tree: Tree, folder: str) -> tuple[Optional[bytes], list[Part]]:
-    """A cover, if there is one, and what there is of each part."""
+def split_in(tree: Tree, folder: str) -> Split:
+    """What the tree was taken apart into; ends the script where the list says otherwise."""
     number = number_in(folder)
     found = split(tree, number)
     fault = changed_in(path_in(folder, LIST), list_text(found, number))
     if fault:
         stop(fault, 3)
+    return found
+
+
+def outcome(tree: Tree, found: Split, folder: str, by_certificates: bool) -> tuple[Optional[bytes], list[Part]]:
+    """A cover, if there is one, and what there is of each part."""
     if found.cover:
         return cover_text(tree, found.cover.options), []
-    parts = [compared(read_part(folder, number, tree, prefix), folder, text)
-             for number, (prefix, text) in enumerate(zip(found.parts, texts_of(tree, found)), 1)]
+    parts = []
+    for number, (prefix, text) in enumerate(zip(found.parts, texts_of(tree, found)), 1):
+        part = compared(read_part(folder, number, tree, prefix), folder, text)
+        parts.append(certified(part, folder, text) if by_certificates else part)
     return next((part.cover for part in parts if part.cover), None), parts
 
 
@@ -142,18 +168,38 @@ def status_of(cover: Optional[bytes], parts: list[Part], left: list[int]) -> int
     return 4 if left else 1
 
 
+def write_certificate(tree: Tree, found: Split, folder: str, parts: list[Part], out: str) -> None:
+    """Writes the certificate that those of the parts make together; ends the script where there is none of the whole, or it can't be written."""
+    other = next((part for part in parts if part.kind != parts[0].kind), None)
+    if other:
+        stop(f"the certificates of parts 1 and {other.number} are of two kinds, by {parts[0].kind.decode()} and by {other.kind.decode()}, and all have "
+             "to be of one", 3)
+    texts = (body_of(path_in(folder, certificate_name(part.number))) for part in parts)
+    joiner = JOINERS[parts[0].kind if parts else b"cases"](tree, found, map(PartText, found.parts, texts))
+    try:
+        join_certificates(path_in(folder, WHOLE), joiner, out)
+    except (Unreadable, NotRight) as why:
+        stop(why, 3)
+    except OSError as why:
+        stop(f"{out} can't be written: {why.strerror}", 3)
+
+
 def main() -> int:
     words = parser_of(__doc__)
     words.add_argument("folder", metavar="FOLDER", help="the folder that split.py made")
     words.add_argument("--left", action="store_true", help="write the paths of the parts that are still to be searched")
+    words.add_argument("--certificate", metavar="OUT", help="count a part's none only by its certificate, and join these")
     given = words.parse_args()
     _, tree = read_tree(path_in(given.folder, WHOLE))
-    cover, parts = outcome(tree, given.folder)
+    found = split_in(tree, given.folder)
+    cover, parts = outcome(tree, found, given.folder, given.certificate is not None)
     left = [] if cover else [part.number for part in parts if not part.is_none and not part.fault]
     status = status_of(cover, parts, left)
     tell([part.fault for part in parts if part.fault])
     if left:
-        complain(f"{len(left)} of {len(parts)} parts have no answer: {ranges(left)}")
+        complain(f"{len(left)} of {len(parts)} parts have no {'certificate' if given.certificate else 'answer'}: {ranges(left)}")
+    if status == 1 and given.certificate and not given.left:
+        write_certificate(tree, found, given.folder, parts, given.certificate)
     if given.left:
         print("".join(path_in(given.folder, part_name(number)) + "\n" for number in left), end="")
     elif status != 3:

@@ -111,12 +111,23 @@ def answer_name(number: int) -> str:
     return f"part-{number}.answer"
 
 
-def item_line(tree: Tree, prefix: Prefix) -> bytes:
-    """The items that are left: what the prefix covers is gone, but for secondary items that it gives a colour."""
+def certificate_name(number: int) -> str:
+    """The file of a part's certificate."""
+    return f"part-{number}.certificate"
+
+
+def items_left(tree: Tree, prefix: Prefix) -> tuple[list[bytes], list[bytes]]:
+    """The primary and the secondary items that are left: what the prefix covers is gone, but for secondary items that it gives a colour."""
     chosen = [tree.problem.options[place] for place in prefix.options]
     gone = {name for option in chosen for name, colour in zip(option.names, option.colours) if colour is None}
     names = tree.problem.names()
     primary, secondary = ([name for name in some if name not in gone] for some in (names[:tree.problem.primary], names[tree.problem.primary:]))
+    return primary, secondary
+
+
+def item_line(tree: Tree, prefix: Prefix) -> bytes:
+    """The item line of a part."""
+    primary, secondary = items_left(tree, prefix)
     return b" ".join(primary + [b"|"] * bool(secondary) + secondary)
 
 
