@@ -355,7 +355,7 @@ def certificates_count(top: str) -> None:
     said = certified(folder, out)
     expect(f"a wrong answer beside its certificate: {said}", said.status == 3 and answer_of(parts[0]) in said.errors)
     os.remove(answer_of(parts[0]))
-    expect("nothing else was left", sorted(os.listdir(top)) == sorted([os.path.basename(folder), "whole.certificate", "answer"]))
+    expect("nothing else was left", sorted(os.listdir(top)) == sorted([os.path.basename(folder), "whole.certificate"]))
     shutil.rmtree(folder)
 
 

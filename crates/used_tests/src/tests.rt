@@ -173,7 +173,7 @@ fn edge_colourings(rt: HostRuntime) -> Result<(), Fail> {
             .problem;
         assert!(rt; made.primary() == made.items());
         let reason = find_reason(alloc, &made)?;
-        assert!(rt; matches!(reason, Some(Reason::Weighed(weights)) if weights.modulus() == 2));
+        assert!(rt; matches!(&reason, Some(Reason::Weighed(weights)) if weights.modulus() == 2));
     }
     Ok(())
 }
