@@ -3,7 +3,8 @@
 #
 #     scripts/run_part.sh PART [WORD ..]
 #
-# The WORDs are the program's words before the file, `alone` where there are none; `solve --nodes 1 --workers 4` and `alone --unlimited` are others.
+# The WORDs are the program's words before the file, `answer --threads 2` where there are none: a search, a reason and learning, on two processors.
+# `alone --unlimited`, for one, and `solve --nodes 1 --workers 4` are others.
 # A part with an answer isn't searched again. The answer is written under another name first, so that a search that is stopped leaves none, nor half
 # of one. The program is what ZARFEPOCH names, else solve_cli on the path, else what was built in this clone. The exit status is the program's,
 # 0 for a cover and 1 for none, if need be that of the answer that is there; 2 for a mistake on the command line; 3 where a file can't be written.
@@ -18,7 +19,7 @@ fail() {
 [ $# -gt 0 ] || fail 2 "usage: scripts/run_part.sh PART [WORD ..]"
 part=$1
 shift
-[ $# -gt 0 ] || set -- alone
+[ $# -gt 0 ] || set -- answer --threads 2
 case $part in
 -*) fail 2 "usage: scripts/run_part.sh PART [WORD ..]" ;;
 *.dlx) answer=${part%.dlx}.answer ;;

@@ -154,12 +154,13 @@ class Problem:
               audit: bool = False) -> Optional[list[int]]:
         """The places of the options of one exact cover, in rising order, or None where there is none.
 
-        One thread searches until it is decided, and looks for a reason for None, or with `nodes` (1 to 16) and `workers` (1 to 8) several threads
-        search, as `solve_cli solve` does; with `audit` their run is audited, so that None is right whatever the network did. Raises `TimeIsUp` after
-        so many seconds, `OutOfMemory`, or a `ProgramError`; `WrongNumber` for a number that can't be.
+        It takes whatever is first, as `solve_cli answer` does on all processors: a search, a reason for None, learning from dead ends. With `nodes` (1
+        to 16) and `workers` (1 to 8) several threads search, as `solve_cli solve` does; with `audit` their run is audited, so that None is right
+        whatever the network did. Raises `TimeIsUp` after so many seconds, `OutOfMemory`, or a `ProgramError`; `WrongNumber` for a number that can't
+        be.
         """
         threads = number_in(nodes, "nodes", MOST_NODES) + number_in(workers, "workers", MOST_WORKERS)
-        words = ["solve", "-", *threads, *["--audit"] * audit] if threads or audit else ["alone", "-", "--unlimited"]
+        words = ["solve", "-", *threads, *["--audit"] * audit] if threads or audit else ["answer", "-"]
         lines = self._numbered_lines()
         status, answer, why = self._ask(words, lines, seconds)
         found = answer.pop() if audit and answer and answer[-1].startswith("audit ") else ""
