@@ -184,11 +184,9 @@ def with_program(path: str, call: Callable[[], Called]) -> Called:
 
 
 def long_search() -> Problem:
-    """A problem whose first cover is found after minutes: an item has two options, and below the first one 62 items would have to be covered by
-    options of five. As there is a cover, no reason ends the search."""
+    """A problem that nobody sees the end of, by searching, reasoning or learning: a cover may be among so few triples, but nobody finds it soon."""
     draw = random.Random(1)
-    drawn = [draw.sample(range(62), 5) for _ in range(1500)]
-    return Problem(["door", *range(62)], options=[["door"], *drawn, ["door", 60, 61]])
+    return Problem(range(180), options=[draw.sample(range(180), 3) for _ in range(450)])
 
 
 def files(folder: str) -> None:
