@@ -3,7 +3,7 @@
 
     python3 bench/parts.py [--parts N] [--jobs N] [--beside] [NAME ..]
 
-Each instance is split into at least N parts (default 200). GNU parallel searches so many at a time (default 4), and is killed with all that it runs
+Each instance is split into at least N parts (default 200). GNU parallel searches so many at a time (default 4), each by `alone`, and is killed with all that it runs
 once half of the parts have an answer; then the same command goes on. The table has the seconds of both runs, those of all parts one by one and of the
 greatest one, and whether the joined answer is right. With --beside, `alone` and `solve --nodes 1` with so many workers are timed too.
 
@@ -122,7 +122,7 @@ def row(name: str, given: argparse.Namespace, top: str) -> bool:
     run_part = os.path.join(TOP, "scripts", "run_part.sh")
     # (parallel hands its command to a shell once more)
     line = (f'"$@" --left | parallel --will-cite --jobs {given.jobs} --joblog {shlex.quote(f"+{folder}/log")} --halt now,success=1 '
-            f'{shlex.quote(shlex.quote(run_part))}')
+            f'{shlex.quote(shlex.quote(run_part))} {{}} alone')
     words = ["sh", "-c", line, "sh", *script("join.py", folder)]
     first = killed_after(words, folder, parts // 2)
     done = answers(folder)
