@@ -113,8 +113,8 @@ def schools(trial: Solving) -> None:
     two = trial.path("one.csv", "lesson;teacher;class;periods;times\nart;ann;5a;Mon1-3 Tue1-3;3\n")
     kept = trial.path("kept.csv", "lesson;class;periods\nart;5a;Mon1\nart;5a;Mon2\nart;5a;Tue2\n")
     for away, count, days in (("Mon1", 2, {"Mon2", "Tue2"}), ("Mon", 1, {"Tue1", "Tue2", "Tue3"})):
-        ruled = trial.path("away.csv", f"who;away\nann;{away}\n")
-        status, lines, errors = trial.run("timetable", two, "--rules", ruled, "--keep", kept, "--csv", "-")
+        without = trial.path("away.csv", f"who;away\nann;{away}\n")
+        status, lines, errors = trial.run("timetable", two, "--rules", without, "--keep", kept, "--csv", "-")
         begins = {line.split(";")[4] for line in lines[1:]}
         trial.expect(f"{count} stay without {away}: {status} {errors} {begins}",
                      status == 0 and f"{count} of 3 times of lessons stay" in errors and days <= begins)
