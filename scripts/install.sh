@@ -25,6 +25,7 @@ remove=
 given=
 for word in "$@"; do
     case $word in
+    -h | --help) sed -n '2,/^[^#]/s/^# \{0,1\}//p' "$0"; exit 0 ;;
     --remove) remove=yes ;;
     "" | -*) usage ;;
     *) [ -z "$given" ] || usage; given=$word ;;
@@ -36,8 +37,8 @@ man=share/man/man1
 bash=share/bash-completion/completions
 zsh=share/zsh/site-functions
 share=share/zarfepoch
-commands="zarfepoch zarfepoch-another zarfepoch-check-reason zarfepoch-draw zarfepoch-explain zarfepoch-generate zarfepoch-join zarfepoch-split
-zarfepoch-why-none"
+commands="zarfepoch zarfepoch-another zarfepoch-check-certificate zarfepoch-check-reason zarfepoch-draw zarfepoch-explain zarfepoch-generate
+zarfepoch-join zarfepoch-split zarfepoch-why-none"
 
 if [ "$remove" ]; then
     files="$share/VERSION"

@@ -428,7 +428,7 @@ WRONG = (
     ("a board of letters", 3, "2", ["board"], "xx\nxy\n"),
     ("a place with a hyphen", 3, "2", ["coloring"], "a b\na b-c\n"), ("no borders", 3, None, ["coloring"], "\n"),
     ("no edges", 3, None, ["matching"], "# none\n"), ("no cubes", 3, None, ["cubes"], ""), ("black cells alone", 3, None, ["kakuro"], "##\n##\n"),
-    ("words of two lengths", 3, "2", ["word-square"], "abc cab\nab\n"),
+    ("words of two lengths", 3, "2", ["word-square"], "abc cab\nab\n"), ("a capital and a small letter", 3, "1", ["word-square"], "Ab\nba\n"),
     ("two squares of one name", 3, "2", ["squares", "1x2"], "a r r r r\na g g g g\n"),
     ("a square called as a cell", 3, "2", ["squares", "1x2"], "a r r r r\n1 g g g g\n"),
     ("squares that can lie in too many ways", 3, None, ["squares", "20x20"], "".join(f"s{k} a b c {'def'[k % 3]}\n" for k in range(400))))

@@ -110,6 +110,14 @@ def schools(trial: Solving) -> None:
     status, lines, errors = trial.run("timetable", table, "--rules", rules, "--keep", plan, "--csv", "-")
     with open(plan, encoding="utf-8") as planned:
         trial.expect(f"the plan is kept: {errors}", status == 0 and lines == planned.read().splitlines() and "32 of 32 times of lessons stay" in errors)
+    two = trial.path("one.csv", "lesson;teacher;class;periods;times\nart;ann;5a;Mon1-3 Tue1-3;3\n")
+    kept = trial.path("kept.csv", "lesson;class;periods\nart;5a;Mon1\nart;5a;Mon2\nart;5a;Tue2\n")
+    for away, count, days in (("Mon1", 2, {"Mon2", "Tue2"}), ("Mon", 1, {"Tue1", "Tue2", "Tue3"})):
+        without = trial.path("away.csv", f"who;away\nann;{away}\n")
+        status, lines, errors = trial.run("timetable", two, "--rules", without, "--keep", kept, "--csv", "-")
+        begins = {line.split(";")[4] for line in lines[1:]}
+        trial.expect(f"{count} stay without {away}: {status} {errors} {begins}",
+                     status == 0 and f"{count} of 3 times of lessons stay" in errors and days <= begins)
     rows = [f"l{k};{one}t{k % 9};{one}{k // 9};;;3;;1" for one in "ab" for k in range(54)]
     large = trial.path("two.csv", "\n".join(["lesson;teacher;class;rooms;periods;times;length;a_day", *rows]) + "\n")
     week = trial.path("week.csv", "who;periods\nall;Mon-Fri1-6\n")
@@ -168,6 +176,8 @@ def spellings(trial: Solving) -> None:
     trial.expect("boxes that can't be", trial.run("sudoku", six, "--boxes", "2x2")[0] == 3)
     grid, words = trial.path("grid.txt", "..\n#.\n"), trial.path("words.txt", "AB\nbc\nx\nx1y\n")
     trial.expect("capitals", trial.run("crossword", grid, words)[0] == 3)
+    status, lines, errors = trial.run("word-square", "--ignore-case", "--one", trial.path("square.txt", "Ab\ncd\nac\nbd\n"))
+    trial.expect(f"a square of words in two cases: {lines} {errors}", status == 0 and lines in (["a b", "c d"], ["a c", "b d"]))
     status, lines, errors = trial.run("crossword", grid, words, "--ignore-case")
     trial.expect(f"capitals and small letters: {lines} {errors}", status == 0 and lines[:2] == ["a b", "  c"] and "2 words of 4" in errors)
     pieces = trial.path("pieces.txt", "A\nxx.\n.xx\nB\nxx\n")
@@ -220,7 +230,7 @@ def pages(trial: Solving) -> None:
     """Man pages and completions of all commands, from their help."""
     folder = trial.path("pages")
     status, _, errors = trial.run(folder, script="scripts/command_pages.py")
-    trial.expect(f"the pages: {errors}", status == 0 and len(os.listdir(folder)) == 27)
+    trial.expect(f"the pages: {errors}", status == 0 and len(os.listdir(folder)) == 30)
     for name, words, options in (("zarfepoch", "zarfepoch timetable --", {"--rules", "--keep", "--csv"}), ("zarfepoch", "zarfepoch sud", {"sudoku"}),
                                  ("zarfepoch-generate", "zarfepoch-generate ", {"timetable", "--help"}), ("zarfepoch-draw", "zarfepoch-draw --", {"--svg"})):
         function = "_" + name.replace("-", "_")

@@ -45,6 +45,8 @@ def solve_json(text: bytes, seconds: Optional[float] = None) -> Optional[list[in
 
 def main() -> int:
     given = command_line().parse_args()
+    if given.kind and given.json:
+        stop("--json FILE stands for a KIND, and both are given")
     if given.kind:
         return solve_kind(given, sys.argv[1:])
     if not given.json:

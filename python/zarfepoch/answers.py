@@ -66,6 +66,16 @@ def movable(timetable: Timetable, draw: random.Random) -> Iterator[set[str]]:
             yield unfit | set(order[:size])
 
 
+def fewer_moved(program: str, timetable: Timetable, released: set[str], found: Answered, limit: float) -> Answered:
+    """An answer in which fewer lessons move than these, which have moved in this one: each of them is tried in its places, one after the other."""
+    for name in sorted(released - timetable.unfit()):
+        if time.monotonic() < limit:
+            again = shortly(program, timetable.kept(released - {name}))
+            if again.status == 0:
+                released, found = released - {name}, again
+    return found
+
+
 def planned(program: str, timetable: Timetable, is_kept: bool, seconds: float) -> Optional[Answered]:
     """The answer to the problem of a timetable, where it is found in so many seconds. Where a plan is kept, short searches come first, in which ever
     more of its lessons may move; their `none` says nothing of the problem as it is."""
@@ -74,6 +84,6 @@ def planned(program: str, timetable: Timetable, is_kept: bool, seconds: float) -
     for released in itertools.takewhile(lambda _: time.monotonic() < limit, choices):
         found = shortly(program, timetable.kept(released))
         if found.status not in (1, 4):
-            return found
+            return fewer_moved(program, timetable, released, found, limit)
     found = answered(program, timetable.text(), max(1.0, limit - time.monotonic()))
     return None if found.status == 4 else found

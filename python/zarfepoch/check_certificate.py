@@ -3,6 +3,7 @@
 
 CERTIFICATE may be -, standard input. docs/FORMAT.md describes both files. Nothing else is used, so that whoever doubts an answer can read all that
 checks it. It prints `right` with status 0, or `wrong: line N: ` and what was expected with 1; status 2 is for other words, 3 for an unread file."""
+import argparse
 import functools
 import sys
 from typing import Iterable, Iterator, Optional
@@ -156,12 +157,13 @@ class Checker:      # once `check` has returned, there is no exact cover; it rai
 
 
 def main() -> int:
-    if len(sys.argv) != 3:
-        print(__doc__)
-        return 0 if sys.argv[1:] == ["--help"] else 2
+    words = argparse.ArgumentParser(description=__doc__, formatter_class=argparse.RawDescriptionHelpFormatter)
+    words.add_argument("file", metavar="FILE", help="the problem's file")
+    words.add_argument("certificate", metavar="CERTIFICATE", help="the certificate's file, or - for the standard input")
+    given = words.parse_args()
     said, status = "right", 0
     try:
-        with open(sys.argv[1], "rb") as file, sys.stdin.buffer if sys.argv[2] == "-" else open(sys.argv[2], "rb") as lines:
+        with open(given.file, "rb") as file, sys.stdin.buffer if given.certificate == "-" else open(given.certificate, "rb") as lines:
             checker = Checker(file.read(), lines)
             checker.check()
     except Wrong as why:

@@ -411,10 +411,13 @@ def want_words(path: str, words: dict[str, int]) -> None:
             refuse(path, number, f"'{word}' has a digit, ':' or '|', which no word may have here")
 
 
-def read_words(path: str) -> list[str]:
-    """Different words of one length."""
+def read_words(path: str, ignore_case: bool) -> list[str]:
+    """Different words of one length, in small letters if capitals are alike."""
     words = read_word_list(path)
+    if ignore_case:
+        words = {word.lower(): number for word, number in words.items()}
     want_words(path, words)
+    want_one_case(path, words)
     first = next(iter(words))
     for word, number in words.items():
         if len(word) != len(first):
@@ -433,15 +436,19 @@ def read_grid(path: str) -> tuple[list[str], list[int]]:
     return [row for _, row in lines], [number for number, _ in lines]
 
 
-def want_letters(path: str, words: dict[str, int]) -> None:
-    """Refuses a list in which a letter is capital here and small there, since these don't meet in a cell, and words with what stands for
-    cells in a grid."""
+def want_one_case(path: str, words: dict[str, int]) -> None:
+    """Refuses a list in which a letter is capital here and small there, since these don't meet in a cell."""
     letters = set("".join(words))
     for word, number in words.items():
         mixed = next((letter for letter in word if letter != letter.lower() and letter.lower() in letters), None)
         if mixed:
             refuse(path, number, f"'{word}' has a capital {mixed}, and the list has a small one too, which differ here; write all words alike, or take "
                    "--ignore-case")
+
+
+def want_letters(path: str, words: dict[str, int]) -> None:
+    """Refuses words with what stands for cells in a grid."""
+    for word, number in words.items():
         if re.search("[.#]", word):
             refuse(path, number, f"'{word}' has '.' or '#', which are no letters in a grid")
 
@@ -464,6 +471,7 @@ def crossword(given: Namespace, note: str) -> None:
         rows, words = [row.lower() for row in rows], {word.lower(): number for word, number in words.items()}
     words = words_that_fit(given.file, words, rows)
     want_words(given.file, words)
+    want_one_case(given.file, words)
     want_letters(given.file, words)
     try:
         problem = puzzles.crossword(rows, list(words), given.repeat)
@@ -644,7 +652,7 @@ KINDS: dict[str, Callable[[Namespace, Note], None]] = {
     "timetable": lambda given, note: timetable(given, note("each lesson once, and no teacher, class or room twice at a time")),
     "squares": squares_on_board,
     "word-square": lambda given, note: word_squares(
-        "-", note(f"{'' if given.repeat else 'different '}words in a square, across and down"), read_words(given.file), repeat=given.repeat),
+        "-", note(f"{'' if given.repeat else 'different '}words in a square, across and down"), read_words(given.file, given.ignore_case), repeat=given.repeat),
     "crossword": lambda given, note: crossword(
         given, note(f"{'' if given.repeat else 'different '}words in a grid, across and down")),
     "nonogram": lambda given, note: write(
@@ -727,7 +735,7 @@ def add_options(kinds: dict[str, argparse.ArgumentParser]) -> None:
     kinds["binairo"].add_argument("--alike", action="store_true", help="two rows, or two columns, may be alike")
     for kind in ("word-square", "crossword"):
         kinds[kind].add_argument("--repeat", action="store_true", help="a word may come more than once")
-    kinds["crossword"].add_argument("--ignore-case", action="store_true", help="capital and small letters are alike")
+        kinds[kind].add_argument("--ignore-case", action="store_true", help="capital and small letters are alike")
     kinds["coloring"].add_argument("--colors", default="red,green,blue", help="the colours, with commas (default red,green,blue)")
     kinds["squares"].add_argument("--border", metavar="COLOUR", help="the colour of all sides that look outwards")
     kinds["timetable"].add_argument("--rules", metavar="FILE.csv", help="who can be had when, and how many periods and holes they may have")

@@ -29,6 +29,7 @@ import os
 import sys
 import time
 from argparse import Namespace
+from collections import Counter
 from typing import Optional
 
 from . import generate
@@ -45,7 +46,7 @@ from .picture_kinds import picture_of
 from .programs import find_program
 from .puzzle_texts import Puzzle
 from .svg_paper import Paper
-from .timetable_plans import MOVED
+from .timetable_plans import Plan, read_plan
 from .timetables import Timetable
 from .why_none import in_words, told_lines
 
@@ -153,21 +154,22 @@ def solved(program: str, puzzle: Puzzle, given: Namespace) -> int:
     answer = read_audited(found.text, problem)
     picture = picture_of(problem, [problem.options[place] for _, place in answer.chosen], False)
     draw(given, planned_picture(picture, getattr(given, "plan", [])), puzzle.comments[0])
-    if isinstance(puzzle, Timetable) and given.keep:
-        complain(kept_words(puzzle, found.text))
+    if isinstance(puzzle, Timetable) and puzzle.school and given.keep:
+        complain(kept_words(puzzle, found.text, read_plan(given.keep, puzzle.school)))
     if not given.one and not isinstance(puzzle, Timetable) and given.out != "-":
         sys.stdout.flush()
         print(only_words(program, problem, found.text, given.seconds))
     return 0
 
 
-def kept_words(timetable: Timetable, answer: bytes) -> str:
-    """How many times of lessons stay in their periods, in a sentence."""
-    lines = answer.decode("utf-8").splitlines()[1:]
-    ranks = {" ".join(one.option): (one.rank, len(one.lessons)) for one in timetable.ranked if one.lessons}
-    found = [ranks[line] for line in lines if line in ranks]
-    stay = sum(count for rank, count in found if rank < MOVED)
-    return f"{stay} of {sum(count for _, count in found)} times of lessons stay in their periods"
+def kept_words(timetable: Timetable, answer: bytes, plan: Plan) -> str:
+    """How many times of lessons stay in their periods, in a sentence, whichever of a lesson's times each is."""
+    lines = set(answer.decode("utf-8").splitlines()[1:])
+    chosen = [one for one in timetable.ranked if one.lessons and " ".join(one.option) in lines]
+    lessons = [timetable.lessons[name] for one in chosen for name in one.lessons]
+    found = Counter(zip(((lesson.title, frozenset(lesson.classes)) for lesson in lessons), (period for one in chosen for period in one.begins)))
+    before = Counter((lesson, place.period) for lesson, places in plan.items() for place in places)
+    return f"{sum((found & before).values())} of {sum(found.values())} times of lessons stay in their periods"
 
 
 def in_parts(given: Namespace, number: int, count: int) -> Namespace:

@@ -53,26 +53,24 @@ def read_plan(path: str, school: School) -> Plan:
     return plan
 
 
-def place_of(plan: Plan, hour: Hour) -> Optional[Place]:
-    """Where a time of a lesson was in a plan: the first times in the week are those with the first numbers."""
+def places_of(plan: Plan, hour: Hour) -> list[Place]:
+    """Where a time of a lesson may be so that it stays in a plan. Times with numbers are in the order of the week, so each of them may take any place of
+    its lesson: where one time goes elsewhere, the others stay, whatever their numbers are then."""
     places = plan.get((hour.lesson.title, frozenset(hour.lesson.classes)), [])
-    fixed = [place for period in hour.lesson.fixed for place in places if place.period == period]
     if hour.is_fixed:
-        return next((place for place in fixed if place.period == hour.steps[0].run[0]), None)
-    left = [place for place in places if place not in fixed]
-    if not hour.number():
-        return next((place for place in left if day_of(place.period) == hour.label), None)
-    number = hour.number() - 1 - len(hour.lesson.fixed)
-    return left[number] if number < len(left) else None
+        return [place for place in places if place.period == hour.steps[0].run[0]]
+    left = [place for place in places if place.period not in hour.lesson.fixed]
+    return left if hour.number() else [place for place in left if day_of(place.period) == hour.label][:1]
 
 
-def difference(place: Optional[Place], step: Step) -> int:
+def difference(places: list[Place], step: Step) -> int:
     """How far a way to give a lesson is from where it was: 0 the same, 1 with other people or rooms, `MOVED` in other periods."""
-    if place is None or place.period != step.run[0]:
+    here = [place for place in places if place.period == step.run[0]]
+    if not here:
         return MOVED
-    return 0 if (place.teachers, place.rooms) == (frozenset(step.teachers), frozenset(step.rooms)) else 1
+    return 0 if any((place.teachers, place.rooms) == (frozenset(step.teachers), frozenset(step.rooms)) for place in here) else 1
 
 
 def preference(plan: Optional[Plan], block: Block, way: tuple[Step, ...]) -> int:
     """The place of a way among others of its times: what a plan has comes first."""
-    return max(difference(place_of(plan, hour), step) for hour, step in zip(block.hours, way)) if plan else 0
+    return max(difference(places_of(plan, hour), step) for hour, step in zip(block.hours, way)) if plan else 0

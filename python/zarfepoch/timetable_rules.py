@@ -7,13 +7,13 @@ own and one of `teachers`, is there only when all of them say so; of a_day and h
 from __future__ import annotations
 
 from collections.abc import Iterable, Iterator
-from dataclasses import dataclass, field
+from dataclasses import dataclass, replace, field
 from typing import Optional
 
 from .cover_files import shown
 from .puzzle_texts import refuse
 from .timetable_files import Lesson, number_in, read_table, Table
-from .weeks import in_order, told_periods
+from .weeks import day_and_number, day_of, in_order, told_periods
 
 COLUMNS, NEEDED = ("who", "periods", "away", "a_day", "holes", "note"), ("who",)
 ALIASES = {"name": "who", "period": "periods", "absent": "away", "aday": "a_day", "perday": "a_day", "hole": "holes", "gaps": "holes", "notes": "note"}
@@ -131,7 +131,7 @@ def read_school(path: str, rules: Optional[str] = None) -> School:
     raw = raw_rows(rules)
     table = Table(path, [row.get(column, "") for _, row in raw for column in ("periods", "away")])
     lessons = table.lessons()
-    rows = list(rows_of_rules(rules or "", raw, table))
+    rows = with_whole_days(lessons, list(rows_of_rules(rules or "", raw, table)))
     week = week_of(path, lessons, rows)
     for lesson in lessons:
         lesson.periods = lesson.periods or list(week)
@@ -141,16 +141,29 @@ def read_school(path: str, rules: Optional[str] = None) -> School:
     table.check(lessons)
     school = School(path, lessons, week, roles_in(lessons), table.separator)
     seen: dict[str, int] = {}
+    known = in_order([*week, *(period for lesson in lessons for period in lesson.periods)])
     for row in rows:
         want_meant(rules or "", row, school.roles, seen)
-        want_known(rules or "", row, {period for lesson in lessons for period in lesson.periods} | set(week))
+        want_known(rules or "", row, set(known))
     by_name = {row.who: row for row in rows}
-    found = {who: rule_of(who, role, by_name, in_order([*week, *(p for lesson in lessons for p in lesson.periods)])) for who, role in school.roles.items()}
+    found = {who: rule_of(who, role, by_name, known) for who, role in school.roles.items()}
     school.rules = {who: rule for who, rule in found.items() if rule}
     everybody = by_name.get("lessons")
     for lesson in lessons:
         lesson.a_day = lesson.a_day or (1 if lesson.apart and lesson.times > 1 else everybody.a_day if everybody else None)
     return school
+
+
+def with_whole_days(lessons: list[Lesson], rows: list[Row]) -> list[Row]:
+    """The rows, in which a day without a number, as Mon, is all periods of that day that the lessons or the rows name."""
+    known = [period for lesson in lessons for period in lesson.periods + lesson.fixed]
+    known = in_order(known + [period for row in rows for period in row.periods if day_and_number(period)])
+
+    def whole(words: list[str]) -> list[str]:
+        days = {word: [one for one in known if day_of(one) == word] for word in words if word not in known}
+        return list(dict.fromkeys(one for word in words for one in days.get(word) or [word]))
+
+    return [replace(row, periods=whole(row.periods), away=whole(row.away)) for row in rows]
 
 
 def want_known(path: str, row: Row, week: set[str]) -> None:

@@ -24,6 +24,7 @@ from __future__ import annotations
 import itertools
 import random
 import re
+from collections import Counter
 from collections.abc import Collection, Iterable, Iterator
 from dataclasses import dataclass, field, replace
 from typing import NamedTuple, Optional
@@ -261,10 +262,12 @@ def implied(school: School, lessons: list[Lesson]) -> list[str]:
 # ---- the problem
 
 class Ranked(NamedTuple):
-    """An option with the lessons that it gives, and how far it is from where they were in a plan that is to be kept: 0 is the same."""
+    """An option with the lessons that it gives, how far it is from where they were in a plan that is to be kept (0 is the same), and the period in
+    which each of them begins."""
     lessons: tuple[str, ...]
     rank: int
     option: list[str]
+    begins: tuple[str, ...] = ()
 
 
 @dataclass
@@ -280,8 +283,9 @@ class Timetable(Puzzle):
         return replace(self, options=[one.option for one in ranked], ranked=ranked)
 
     def unfit(self) -> set[str]:
-        """The lessons that can't stay where they are in the plan: some of their times have no option there."""
-        counts = {name: len({one.option[0] for one in self.ranked if name in one.lessons and one.rank < MOVED}) for name in self.lessons}
+        """The lessons that can't stay where they are in the plan: there are fewer places for them than they have times."""
+        places = {(lesson, period) for one in self.ranked if one.rank < MOVED for lesson, period in zip(one.lessons, one.begins)}
+        counts = Counter(lesson for lesson, _ in places)
         return {name for name, lesson in self.lessons.items() if counts[name] < lesson.times}
 
 
@@ -364,7 +368,7 @@ class Problem:
 
     def ranked(self, plan: Optional[Plan]) -> list[Ranked]:
         """All options, each with what it is of and how far from the plan."""
-        found = [Ranked(tuple(hour.lesson.name for hour in block.hours), preference(plan, block, way), option)
+        found = [Ranked(tuple(hour.lesson.name for hour in block.hours), preference(plan, block, way), option, tuple(step.run[0] for step in way))
                  for block in self.blocks for way in block.ways for option in self.options_of(block, way)]
         return found + [Ranked((), 0, option) for free in self.free.values() for option in free.options] + [
             Ranked((), 0, option) for option in self.days_off()[1]]

@@ -121,13 +121,14 @@ fn ticking() -> Ticking {
 }
 
 /// A fuel, or 0 for none, and seconds, with what a search of 2,331 visits writes that may last so long, what a check of `none`, and the status of
-/// the first. The clock is read when it begins and once in some 1,024 visits, more often where states are looked for.
+/// the first. The clock is read when it begins and once in some 1,024 visits, more often where states are looked for, and at each option where a
+/// reason is.
 static TIMES: [(u64, u64, &str, &str, u8); 5] = [
     (u64::MAX, 1, "no answer\n", "no answer\n", 4),
     (u64::MAX, 2, "no answer\n", "no answer\n", 4),
     (u64::MAX, 9, "none\n", "right\n", 1),
     (0, 1, "no answer\n", "no answer\n", 4),
-    (0, 99, "none\n", "right\n", 1),
+    (0, 999_999, "none\n", "right\n", 1),
 ];
 
 #[test]
