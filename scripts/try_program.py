@@ -40,7 +40,7 @@ SPENT = b"ended: the fuel is spent: try more --fuel, or --unlimited\n"
 HEADER = struct.Struct(">2sBBBIBI")
 STEAL = 3
 # the commands of the package that install.sh installs, and all that it writes
-TOOLS = ("another", "check-reason", "draw", "explain", "generate", "join", "split", "why-none")
+TOOLS = ("another", "check-certificate", "check-reason", "draw", "explain", "generate", "join", "split", "why-none")
 COMMANDS = ("solve_cli", "zarfepoch", *(f"zarfepoch-{tool}" for tool in TOOLS))
 INSTALLED = ("share/zarfepoch/VERSION", *(path for name in COMMANDS for path in (
     f"bin/{name}", f"share/man/man1/{name}.1", f"share/bash-completion/completions/{name}", f"share/zsh/site-functions/_{name}")),
@@ -450,7 +450,9 @@ def installing_again(folder: str) -> None:
     environment = {**os.environ, "DESTDIR": folder, "CDPATH": TOP}
     ended = subprocess.run(["sh", "scripts/install.sh", "/path"], cwd=TOP, env=environment, capture_output=True, text=True)
     expect("install.sh with CDPATH", ended.returncode == 0 and os.path.isfile(os.path.join(folder, "path", INSTALLED[0])))
-    for words in ([""], ["-h"], ["/opt", "/usr"]):
+    ended = install(folder, "--help")
+    expect("install.sh --help", ended.returncode == 0 and ended.stdout.startswith("Installs ") and "set -eu" not in ended.stdout)
+    for words in ([""], ["-x"], ["/opt", "/usr"]):
         ended = install(folder, *words)
         expect(f"install.sh {words} is refused", ended.returncode == 2 and ended.stderr.startswith("usage: "))
 

@@ -1,8 +1,7 @@
-#!/usr/bin/env python3
-"""Checks that a certificate shows that a problem has no exact cover: python3 scripts/check_certificate.py FILE CERTIFICATE
+"""Checks that a certificate shows that a problem has no exact cover.
 
-CERTIFICATE may be -, standard input. docs/FORMAT.md describes both files. Nothing else is used, so that whoever doubts an answer can read all that
-checks it. It prints `right` with status 0, or `wrong: line N: ` and what was expected with 1; status 2 is for other words, 3 for an unread file."""
+docs/FORMAT.md describes both files. Nothing else is used, so that whoever doubts an answer can read all that checks it. It prints `right` with
+status 0, or `wrong: line N: ` and what was expected with 1; status 2 is for other words, 3 for an unread file."""
 import argparse
 import functools
 import sys
@@ -158,10 +157,9 @@ class Checker:      # once `check` has returned, there is no exact cover; it rai
 
 def main() -> int:
     words = argparse.ArgumentParser(description=__doc__, formatter_class=argparse.RawDescriptionHelpFormatter)
-    words.add_argument("file", metavar="FILE", help="the problem's file")
-    words.add_argument("certificate", metavar="CERTIFICATE", help="the certificate's file, or - for the standard input")
-    given = words.parse_args()
-    said, status = "right", 0
+    for name, what in (("file", "the problem's file"), ("certificate", "the certificate's file, or - for the standard input")):
+        words.add_argument(name, metavar=name.upper(), help=what)
+    given, said, status = words.parse_args(), "right", 0
     try:
         with open(given.file, "rb") as file, sys.stdin.buffer if given.certificate == "-" else open(given.certificate, "rb") as lines:
             checker = Checker(file.read(), lines)
