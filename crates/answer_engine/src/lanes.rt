@@ -181,7 +181,6 @@ fn excluded<W: ReasonWatch>(alloc: Global, problem: &Problem, watch: &mut W) -> 
 }
 
 /// The answer of a run of so many workers, if it has one.
-#[tactic(auto, using(crate::proofs::Firsts::settled_is_won))]
 fn ran<R: Threads + Wait + Clock + Sync>(
     rt: &R,
     alloc: Global,

@@ -9,9 +9,9 @@ use dlx_reader::{Sink, Source};
 use search_engines::{EngineFault, read_all};
 use std::alloc::Global;
 
-/// What is said where a reason needs items to be primary that the file has as secondary ones.
+/// What is said of a reason by just enough room or by cliques.
 const NO_LINE: &str =
-    "none has a line for just enough room; alone --unlimited --certificate or learn --certificate may write one";
+    "no line says just enough room or cliques; alone --unlimited --certificate or learn --certificate may write one";
 
 /// What became of a certificate that was to be written.
 #[derive(Clone, Copy, Debug, PartialEq, Eq)]

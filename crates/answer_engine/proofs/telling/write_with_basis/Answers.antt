@@ -11,5 +11,5 @@ returns-clause-output g c =
     let won = c.args.won.now in
     let lines = basis_text c.args.problem.now won.basis in
     let Writes : List ℕ → Type 0 = λ text. IsOutput (said text c.in_ok-status.status) now new c.write_line.result in
-    let behind = subst Writes (c.deref.ensures ∙ c.in-Ok.ensures) c.write_line.ensures.output in
+    let behind = subst Writes (c.deref.ensures.value ∙ c.in-Ok.ensures) c.write_line.ensures.output in
     output_both (answer_said c.args.problem.now won.answer) lines (λ status. status) (g.W.Write.contents c.args.sink.now) now new c.in_ok-status.status c.write_line.result c.in_ok-status.ensures.output behind c.write_line.ensures.fault
