@@ -1,8 +1,9 @@
 //! `answer`: an answer to a file's problem, by whatever is first.
 
-ghost use Rattle.std.specs.Prelude.{◌≡◌, ◌≢◌, ◌-◌, ◌<◌, ◌^◌, IfOk, IfSome, None};
+ghost use Rattle.std.specs.Prelude.{◌≡◌, ◌≢◌, IfOk, IfSome, None};
 ghost use Rattle.std.specs.Io.KnownBytes.{IsAtEnd};
 ghost use Rattle.answer_engine.specs.Answers.{AnswerSays, IsWonOf};
+ghost use Rattle.dlx_reader.specs.Devices.{failed_once};
 ghost use Rattle.search_engines.specs.Engines.{IsEnded, refuses_none};
 ghost use Rattle.search_engines.specs.Output.{IsOutputOf};
 
@@ -178,10 +179,9 @@ fn write_decided<V: EndWatch, W: Sink, R: Threads + Wait + Clock + Sync>(
     watch: &mut V,
     sink: &mut W,
 ) -> Result<u8, EngineFault>
-    requires { W.failed sink.old < 2 ^ 64 - 1 }
     ensures output { IsOutputOf (AnswerSays task.now.reason task.now.time problem.now)
         (W.contents sink.old) (W.contents sink.new) result }
-    ensures failed { result ≡ Err EngineFault.Write → W.failed sink.old < W.failed sink.new }
+    ensures failed { result ≡ Err EngineFault.Write → W.failed sink.new ≡ failed_once (W.failed sink.old) }
 {
     match decided(task, problem, watch) {
         Ok(won) => write_told(task.alloc, problem, won.as_ref(), task.reason, sink),
@@ -205,15 +205,13 @@ pub fn answer_engine<S: Source, W: Sink, E: Sink, R: Threads + Wait + Clock + Sy
     sink: &mut W,
     log: ProgressLog<'_, E>,
 ) -> Result<AnswerEnd, EngineFault>
-    requires source { S.failed source.old < 2 ^ 64 - 1 }
-    requires sink { W.failed sink.old < 2 ^ 64 - 1 }
     ensures ended { IfSome (S.remaining source.old) (λ text.
         IsEnded (AnswerSays task.now.reason task.now.time) refuses_none text
         (W.contents sink.old) (W.contents sink.new) result) }
     ensures read { result ≢ Err EngineFault.Read → result ≢ Err EngineFault.Memory →
         IsAtEnd (S.remaining source.new) }
-    ensures read_fault { result ≡ Err EngineFault.Read → S.failed source.old < S.failed source.new }
-    ensures write_fault { result ≡ Err EngineFault.Write → W.failed sink.old < W.failed sink.new }
+    ensures read_fault { result ≡ Err EngineFault.Read → S.failed source.new ≡ failed_once (S.failed source.old) }
+    ensures write_fault { result ≡ Err EngineFault.Write → W.failed sink.new ≡ failed_once (W.failed sink.old) }
 {
     let read = read_whole(task.alloc, source)?;
     let made = ProgressWatch::new(task.rt, task.alloc, &read.problem, u64::MAX, log);

@@ -1,7 +1,8 @@
 //! The text of an answer, and of what it rests on.
 
-ghost use Rattle.std.specs.Prelude.{◌≡◌, ◌-◌, ◌<◌, ◌^◌, option_map, true, IfSome};
+ghost use Rattle.std.specs.Prelude.{◌≡◌, option_map, true, IfSome};
 ghost use Rattle.answer_engine.specs.Answers.{IsWonOf, told_said, won_said};
+ghost use Rattle.dlx_reader.specs.Devices.{failed_once};
 ghost use Rattle.search_engines.specs.Output.{IsOutput};
 
 use crate::basis::{Won, basis_lines};
@@ -19,10 +20,9 @@ fn write_with_basis<W: Sink>(
     sink: &mut W,
 ) -> Result<u8, EngineFault>
     requires won { IsWonOf problem.now won.now }
-    requires failed { W.failed sink.old < 2 ^ 64 - 1 }
     ensures output { IsOutput (won_said true problem.now won.now) (W.contents sink.old)
         (W.contents sink.new) result }
-    ensures failed { result ≡ Err EngineFault.Write → W.failed sink.old < W.failed sink.new }
+    ensures failed { result ≡ Err EngineFault.Write → W.failed sink.new ≡ failed_once (W.failed sink.old) }
 {
     // (before the first byte of the answer, so that nothing is written if memory runs out)
     let Ok(lines) = basis_lines(alloc, problem, &won.basis) else {
@@ -42,10 +42,9 @@ fn write_won<W: Sink>(
     sink: &mut W,
 ) -> Result<u8, EngineFault>
     requires won { IsWonOf problem.now won.now }
-    requires failed { W.failed sink.old < 2 ^ 64 - 1 }
     ensures output { IsOutput (won_said is_asked problem.now won.now) (W.contents sink.old)
         (W.contents sink.new) result }
-    ensures failed { result ≡ Err EngineFault.Write → W.failed sink.old < W.failed sink.new }
+    ensures failed { result ≡ Err EngineFault.Write → W.failed sink.new ≡ failed_once (W.failed sink.old) }
 {
     if is_asked {
         write_with_basis(alloc, problem, won, sink)
@@ -63,11 +62,10 @@ pub(crate) fn write_told<W: Sink>(
     sink: &mut W,
 ) -> Result<u8, EngineFault>
     requires won { IfSome won (λ won. IsWonOf problem.now won.now) }
-    requires failed { W.failed sink.old < 2 ^ 64 - 1 }
     ensures output { IsOutput (told_said is_asked problem.now
         (option_map (λ won. won.now) won.entry)) (W.contents sink.old) (W.contents sink.new)
         result }
-    ensures failed { result ≡ Err EngineFault.Write → W.failed sink.old < W.failed sink.new }
+    ensures failed { result ≡ Err EngineFault.Write → W.failed sink.new ≡ failed_once (W.failed sink.old) }
 {
     match won {
         Some(won) => write_won(alloc, problem, won, is_asked, sink),

@@ -1,8 +1,9 @@
 //! `check` of a certificate that a file's problem has no exact cover.
 
-ghost use Rattle.std.specs.Prelude.{◌≡◌, ◌≢◌, ◌-◌, ◌<◌, ◌^◌, IfSome};
+ghost use Rattle.std.specs.Prelude.{◌≡◌, ◌≢◌, IfSome};
 ghost use Rattle.std.specs.Io.KnownBytes.{IsAtEnd};
 ghost use Rattle.certificate_engine.specs.Certificate.{CertificateSays, checked_said};
+ghost use Rattle.dlx_reader.specs.Devices.{failed_once};
 ghost use Rattle.search_engines.specs.Engines.{IsEnded, refuses_none};
 ghost use Rattle.search_engines.specs.Output.{IsOutput, IsOutputOf};
 
@@ -18,9 +19,8 @@ pub type CertificateEnd = EngineEnd;
 
 /// Writes what a test came to, and returns the status.
 fn write_checked<W: Sink>(alloc: Global, checked: Checked, sink: &mut W) -> Result<u8, EngineFault>
-    requires { W.failed sink.old < 2 ^ 64 - 1 }
     ensures output { IsOutput (checked_said checked) (W.contents sink.old) (W.contents sink.new) result }
-    ensures failed { result ≡ Err EngineFault.Write → W.failed sink.old < W.failed sink.new }
+    ensures failed { result ≡ Err EngineFault.Write → W.failed sink.new ≡ failed_once (W.failed sink.old) }
 {
     match checked {
         Checked::Right => write_line(b"right\n", 0, sink),
@@ -38,10 +38,9 @@ fn write_test<W: Sink>(
     certificate: &[u8],
     sink: &mut W,
 ) -> Result<u8, EngineFault>
-    requires { W.failed sink.old < 2 ^ 64 - 1 }
     ensures output { IsOutputOf (CertificateSays problem.now) (W.contents sink.old)
         (W.contents sink.new) result }
-    ensures failed { result ≡ Err EngineFault.Write → W.failed sink.old < W.failed sink.new }
+    ensures failed { result ≡ Err EngineFault.Write → W.failed sink.new ≡ failed_once (W.failed sink.old) }
 {
     match check_certificate(alloc, problem, certificate) {
         Ok(checked) => write_checked(alloc, checked, sink),
@@ -61,14 +60,12 @@ pub fn certificate_engine<R: Source, W: Sink>(
     certificate: &[u8],
     sink: &mut W,
 ) -> Result<CertificateEnd, EngineFault>
-    requires file { R.failed file.old < 2 ^ 64 - 1 }
-    requires sink { W.failed sink.old < 2 ^ 64 - 1 }
     ensures ended { IfSome (R.remaining file.old) (λ text.
         IsEnded CertificateSays refuses_none text (W.contents sink.old) (W.contents sink.new) result) }
     ensures read { result ≢ Err EngineFault.Read → result ≢ Err EngineFault.Memory →
         IsAtEnd (R.remaining file.new) }
-    ensures read_fault { result ≡ Err EngineFault.Read → R.failed file.old < R.failed file.new }
-    ensures write_fault { result ≡ Err EngineFault.Write → W.failed sink.old < W.failed sink.new }
+    ensures read_fault { result ≡ Err EngineFault.Read → R.failed file.new ≡ failed_once (R.failed file.old) }
+    ensures write_fault { result ≡ Err EngineFault.Write → W.failed sink.new ≡ failed_once (W.failed sink.old) }
 {
     let text = read_all(alloc, file)?;
     let read = problem_of(alloc, &text)?;

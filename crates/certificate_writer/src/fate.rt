@@ -1,6 +1,6 @@
 //! What becomes of a certificate that is to be written.
 
-ghost use Rattle.std.specs.Prelude.{◌≡◌, ◌-◌, ◌<◌, ◌^◌, ℕ, Bool};
+ghost use Rattle.std.specs.Prelude.{◌≡◌, ℕ, Bool};
 ghost use Rattle.cover_problem.specs.ExactCover.{IsExactCover};
 
 use cover_certificates::{Checked, check_certificate};
@@ -68,7 +68,6 @@ impl CertificateFate {
 
 /// Reads a certificate of a problem to its end, and returns what a test of it comes to.
 pub fn test_written<R: Source>(alloc: Global, problem: &Problem, source: &mut R) -> CertificateFate
-    requires { R.failed source.old < 2 ^ 64 - 1 }
     ensures { result ≡ CertificateFate.Right → (chosen : ℕ → Bool) → IsExactCover problem.now chosen → ⊥ }
 {
     match read_all(alloc, source) {

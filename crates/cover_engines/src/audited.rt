@@ -1,9 +1,10 @@
 //! What an audit of a run's books adds to the run's answer.
 
-ghost use Rattle.std.specs.Prelude.{Err, ◌≡◌, ◌≢◌, ◌-◌, ◌<◌, ◌^◌, ◌++◌, codes, decimal, option_map, string_bytes, IfOk, IfSome};
+ghost use Rattle.std.specs.Prelude.{Err, ◌≡◌, ◌≢◌, ◌++◌, codes, decimal, option_map, string_bytes, IfOk, IfSome};
 ghost use Rattle.audit.specs.declared.auditing.Unclean.TheVariants as unclean;
 ghost use Rattle.dlx_reader.specs.Writing.{IsWritable};
 ghost use Rattle.cover_engines.specs.Audit.{audited_said, finding_line, finding_status};
+ghost use Rattle.dlx_reader.specs.Devices.{failed_once};
 ghost use Rattle.search_engines.specs.Output.{IsOutput};
 
 use audit::{Clean, Unclean};
@@ -86,11 +87,10 @@ pub fn write_audited<W: Sink>(
     sink: &mut W,
 ) -> Result<u8, EngineFault>
     requires order { IfSome published (λ answer. IsWritable problem.now answer.now) }
-    requires failed { W.failed sink.old < 2 ^ 64 - 1 }
     ensures output { IsOutput (audited_said problem.now (option_map
         (λ answer. answer.now) published.entry) found)
         (W.contents sink.old) (W.contents sink.new) result }
-    ensures failed { result ≡ Err EngineFault.Write → W.failed sink.old < W.failed sink.new }
+    ensures failed { result ≡ Err EngineFault.Write → W.failed sink.new ≡ failed_once (W.failed sink.old) }
     ensures starved { found ≡ Err unclean.Memory → result ≡ Err EngineFault.Memory }
 {
     let Ok(line) = line_of(alloc, found) else {

@@ -1,8 +1,9 @@
 //! `solve`: from the bytes of a problem's file to the bytes of the answer.
 
-ghost use Rattle.std.specs.Prelude.{◌≡◌, ◌+◌, ◌-◌, ◌*◌, ◌<◌, ◌^◌, List, ℕ, option_map, vec_len, IfSome, MatchOption};
+ghost use Rattle.std.specs.Prelude.{◌≡◌, ◌+◌, ◌*◌, List, ℕ, option_map, vec_len, IfSome, MatchOption};
 ghost use Rattle.std.specs.Duration.{as_nanos};
 ghost use Rattle.cover_engines.specs.Solve.{unlinked_status, EndsAs, SolveSays};
+ghost use Rattle.dlx_reader.specs.Devices.{failed_once};
 ghost use Rattle.dlx_reader.specs.ProblemOf.{IsProblemOf};
 ghost use Rattle.search_engines.specs.Output.{IsOutputOf};
 
@@ -49,11 +50,9 @@ impl<N: Network, R: Threads + Wait + Clock + Sync> Machine<'_, N, R> {
         sink: &mut W,
         errors: &mut E,
     ) -> u8
-        requires source { S.failed source.old < 2 ^ 64 - 1 }
-        requires sink { W.failed sink.old < 2 ^ 64 - 1 }
         ensures { IfSome (S.remaining source.old) (λ text. EndsAs
             (SolveSays request.now.settings) (N.has_refused self.now.network request.now.settings.nodes)
-            (S.failed source.old < S.failed source.new) (W.failed sink.old < W.failed sink.new)
+            (S.failed source.new ≡ failed_once (S.failed source.old)) (W.failed sink.new ≡ failed_once (W.failed sink.old))
             text (W.contents sink.old) (W.contents sink.new) result) }
     {
         match read_whole(self.alloc, source) {
@@ -71,10 +70,9 @@ impl<N: Network, R: Threads + Wait + Clock + Sync> Machine<'_, N, R> {
         sink: &mut W,
         errors: &mut E,
     ) -> u8
-        requires { W.failed sink.old < 2 ^ 64 - 1 }
         ensures { (text : List ℕ) → IsProblemOf text read.now.problem read.now.ignored → EndsAs
             (SolveSays request.now.settings) (N.has_refused self.now.network request.now.settings.nodes)
-            ⊥ (W.failed sink.old < W.failed sink.new)
+            ⊥ (W.failed sink.new ≡ failed_once (W.failed sink.old))
             text (W.contents sink.old) (W.contents sink.new) result }
     {
         let links = match self.network.links(self.alloc, request.settings.nodes) {
@@ -98,10 +96,9 @@ impl<N: Network, R: Threads + Wait + Clock + Sync> Machine<'_, N, R> {
         errors: &mut E,
     ) -> Result<u8, EngineFault>
         requires links { vec_len links ≡ request.now.settings.nodes + 1 }
-        requires sink { W.failed sink.old < 2 ^ 64 - 1 }
         ensures output { IsOutputOf (SolveSays request.now.settings read.now.problem)
             (W.contents sink.old) (W.contents sink.new) result }
-        ensures failed { result ≡ Err EngineFault.Write → W.failed sink.old < W.failed sink.new }
+        ensures failed { result ≡ Err EngineFault.Write → W.failed sink.new ≡ failed_once (W.failed sink.old) }
     {
         if request.progress {
             self.search_followed(request, read, links, sink, errors)
@@ -121,10 +118,9 @@ impl<N: Network, R: Threads + Wait + Clock + Sync> Machine<'_, N, R> {
         errors: &mut E,
     ) -> Result<u8, EngineFault>
         requires links { vec_len links ≡ request.now.settings.nodes + 1 }
-        requires sink { W.failed sink.old < 2 ^ 64 - 1 }
         ensures output { IsOutputOf (SolveSays request.now.settings read.now.problem)
             (W.contents sink.old) (W.contents sink.new) result }
-        ensures failed { result ≡ Err EngineFault.Write → W.failed sink.old < W.failed sink.new }
+        ensures failed { result ≡ Err EngineFault.Write → W.failed sink.new ≡ failed_once (W.failed sink.old) }
     {
         let task = task_of(request, read);
         let quiet = QuietRun::new(self.rt);
@@ -147,10 +143,9 @@ impl<N: Network, R: Threads + Wait + Clock + Sync> Machine<'_, N, R> {
         errors: &mut E,
     ) -> Result<u8, EngineFault>
         requires links { vec_len links ≡ request.now.settings.nodes + 1 }
-        requires sink { W.failed sink.old < 2 ^ 64 - 1 }
         ensures output { IsOutputOf (SolveSays request.now.settings read.now.problem)
             (W.contents sink.old) (W.contents sink.new) result }
-        ensures failed { result ≡ Err EngineFault.Write → W.failed sink.old < W.failed sink.new }
+        ensures failed { result ≡ Err EngineFault.Write → W.failed sink.new ≡ failed_once (W.failed sink.old) }
     {
         let (rt, alloc) = (self.rt, self.alloc);
         let task = task_of(request, read);

@@ -1,10 +1,11 @@
 //! `solve`: sites with threads of their own search a problem.
 
-ghost use Rattle.std.specs.Prelude.{◌≡◌, ◌+◌, ◌-◌, ◌<◌, ◌^◌, true, false, vec_len, IfErr, IfOk};
+ghost use Rattle.std.specs.Prelude.{◌≡◌, ◌+◌, true, false, vec_len, IfErr, IfOk};
 ghost use Rattle.run_book.specs.Runs.{IsRunEnd};
 ghost use Rattle.cover_engines.specs.Audit.{AuditSays};
 ghost use Rattle.search_engines.specs.Output.{IsOutputOf};
 ghost use Rattle.cover_engines.specs.Solve.{run_of, RunSays};
+ghost use Rattle.dlx_reader.specs.Devices.{failed_once};
 
 use crate::audited::write_audited;
 use audit::audit;
@@ -159,9 +160,8 @@ fn write_run<
 ) -> Result<u8, EngineFault>
     requires run { J.run ≡ record { problem = task.problem.now; nodes = task.settings.now.nodes } }
     requires links { vec_len links ≡ task.settings.now.nodes + 1 }
-    requires failed { W.failed sink.old < 2 ^ 64 - 1 }
     ensures output { IsOutputOf (RunSays J.run) (W.contents sink.old) (W.contents sink.new) result }
-    ensures failed { result ≡ Err EngineFault.Write → W.failed sink.old < W.failed sink.new }
+    ensures failed { result ≡ Err EngineFault.Write → W.failed sink.new ≡ failed_once (W.failed sink.old) }
 {
     let problem = task.problem;
     let end: SolveEnd<J> = solve_within(rt, alloc, task, links, gate)?;
@@ -186,10 +186,9 @@ fn write_audited_run<
 ) -> Result<u8, EngineFault>
     requires run { J.run ≡ record { problem = task.problem.now; nodes = task.settings.now.nodes } }
     requires links { vec_len links ≡ task.settings.now.nodes + 1 }
-    requires failed { W.failed sink.old < 2 ^ 64 - 1 }
     ensures output { IsOutputOf (AuditSays J.run) (W.contents sink.old) (W.contents sink.new)
         result }
-    ensures failed { result ≡ Err EngineFault.Write → W.failed sink.old < W.failed sink.new }
+    ensures failed { result ≡ Err EngineFault.Write → W.failed sink.new ≡ failed_once (W.failed sink.old) }
 {
     // (a law, empty at run time: it ties the answer that is written to the books that are audited)
     a_book_tells_what_is_published();
@@ -217,14 +216,13 @@ pub fn solve_problem<L: Link + Send, G: Gate + Sync, W: Sink, R: Threads + Wait 
     sink: &mut W,
 ) -> Result<u8, EngineFault>
     requires links { vec_len links ≡ task.settings.now.nodes + 1 }
-    requires failed { W.failed sink.old < 2 ^ 64 - 1 }
     ensures output { task.entry.settings.now.audit ≡ false →
         IsOutputOf (RunSays (run_of task.entry.problem.now task.entry.settings.now)) (W.contents sink.old)
         (W.contents sink.new) result }
     ensures audited { task.entry.settings.now.audit ≡ true →
         IsOutputOf (AuditSays (run_of task.entry.problem.now task.entry.settings.now)) (W.contents sink.old)
         (W.contents sink.new) result }
-    ensures failed { result ≡ Err EngineFault.Write → W.failed sink.old < W.failed sink.new }
+    ensures failed { result ≡ Err EngineFault.Write → W.failed sink.new ≡ failed_once (W.failed sink.old) }
 {
     if task.settings.audit {
         // (a type names the run in the contracts of books and sites: here Brand gets the name of this one)

@@ -1,6 +1,6 @@
 //! The text of a cover, written through a buffer.
 
-ghost use Rattle.std.specs.Prelude.{◌≡◌, ◌-◌, ◌<◌, ◌≤◌, ◌^◌, [], ◌∷◌, ◌++◌, length, All, IfOk};
+ghost use Rattle.std.specs.Prelude.{◌≡◌, ◌<◌, ◌≤◌, [], ◌∷◌, ◌++◌, length, All, IfOk};
 ghost use Rattle.std.specs.List.{flat_map, zip};
 ghost use Rattle.dlx_reader.specs.Devices.{IsWritten, IsCounted};
 ghost use Rattle.dlx_reader.specs.Buffering.{IsBuffered};
@@ -14,7 +14,6 @@ use cover_problem::Problem;
 
 /// Writes what is in the buffer.
 fn flush<W: Sink>(buffer: &mut Buffer, sink: &mut W) -> Result<(), WriteFault>
-    requires { W.failed sink.old < 2 ^ 64 - 1 }
     ensures none { IfOk result (λ _. buffer.new ≡ []) }
     ensures bytes { IsWritten (W.contents sink.old) (W.contents sink.new) buffer.old result }
     ensures failed { IsCounted (W.failed sink.old) (W.failed sink.new) result }
@@ -27,7 +26,6 @@ fn flush<W: Sink>(buffer: &mut Buffer, sink: &mut W) -> Result<(), WriteFault>
 /// Buffers bytes on where none wait: they wait if there is room for them, and else they are written.
 fn buffer_first<W: Sink>(bytes: &[u8], buffer: &mut Buffer, sink: &mut W) -> Result<(), WriteFault>
     requires none { buffer.old ≡ [] }
-    requires failed { W.failed sink.old < 2 ^ 64 - 1 }
     ensures bytes { IsBuffered buffer.old buffer.new (W.contents sink.old) (W.contents sink.new)
         bytes.now result }
     ensures failed { IsCounted (W.failed sink.old) (W.failed sink.new) result }
@@ -42,7 +40,6 @@ fn buffer_first<W: Sink>(bytes: &[u8], buffer: &mut Buffer, sink: &mut W) -> Res
 
 /// Buffers bytes on: they wait behind those that wait, which are written first where there is no room for more.
 fn buffer_bytes<W: Sink>(bytes: &[u8], buffer: &mut Buffer, sink: &mut W) -> Result<(), WriteFault>
-    requires { W.failed sink.old < 2 ^ 64 - 1 }
     ensures bytes { IsBuffered buffer.old buffer.new (W.contents sink.old) (W.contents sink.new)
         bytes.now result }
     ensures failed { IsCounted (W.failed sink.old) (W.failed sink.new) result }
@@ -62,7 +59,6 @@ fn buffer_two<W: Sink>(
     buffer: &mut Buffer,
     sink: &mut W,
 ) -> Result<(), WriteFault>
-    requires { W.failed sink.old < 2 ^ 64 - 1 }
     ensures bytes { IsBuffered buffer.old buffer.new (W.contents sink.old) (W.contents sink.new)
         (first.now ++ second.now) result }
     ensures failed { IsCounted (W.failed sink.old) (W.failed sink.new) result }
@@ -79,7 +75,6 @@ fn buffer_colour<W: Sink>(
     sink: &mut W,
 ) -> Result<(), WriteFault>
     requires colour { colour ≤ length problem.now.colour_names }
-    requires failed { W.failed sink.old < 2 ^ 64 - 1 }
     ensures bytes { IsBuffered buffer.old buffer.new (W.contents sink.old) (W.contents sink.new)
         (colour_behind problem.now colour) result }
     ensures failed { IsCounted (W.failed sink.old) (W.failed sink.new) result }
@@ -100,7 +95,6 @@ fn buffer_word<W: Sink>(
 ) -> Result<(), WriteFault>
     requires item { item < length problem.now.names }
     requires colour { colour ≤ length problem.now.colour_names }
-    requires failed { W.failed sink.old < 2 ^ 64 - 1 }
     ensures bytes { IsBuffered buffer.old buffer.new (W.contents sink.old) (W.contents sink.new)
         (word_text problem.now (item, colour)) result }
     ensures failed { IsCounted (W.failed sink.old) (W.failed sink.new) result }
@@ -119,7 +113,6 @@ fn buffer_behind<W: Sink>(
 ) -> Result<(), WriteFault>
     requires item { item < length problem.now.names }
     requires colour { colour ≤ length problem.now.colour_names }
-    requires failed { W.failed sink.old < 2 ^ 64 - 1 }
     ensures bytes { IsBuffered buffer.old buffer.new (W.contents sink.old) (W.contents sink.new)
         (32 ∷ word_text problem.now (item, colour)) result }
     ensures failed { IsCounted (W.failed sink.old) (W.failed sink.new) result }
@@ -139,7 +132,6 @@ fn buffer_others<W: Sink>(
     requires items { All (λ i. i < length problem.now.names) items.now }
     requires colours { All (λ c. c ≤ length problem.now.colour_names) colours.now }
     requires long { length colours.now ≡ length items.now }
-    requires failed { W.failed sink.old < 2 ^ 64 - 1 }
     ensures bytes { IsBuffered buffer.old buffer.new (W.contents sink.old) (W.contents sink.new)
         (words_after problem.now (zip items.now colours.now)) result }
     ensures failed { IsCounted (W.failed sink.old) (W.failed sink.new) result }
@@ -161,7 +153,6 @@ fn buffer_words<W: Sink>(
     requires items { All (λ i. i < length problem.now.names) items.now }
     requires colours { All (λ c. c ≤ length problem.now.colour_names) colours.now }
     requires long { length colours.now ≡ length items.now }
-    requires failed { W.failed sink.old < 2 ^ 64 - 1 }
     ensures bytes { IsBuffered buffer.old buffer.new (W.contents sink.old) (W.contents sink.new)
         (words_text problem.now (zip items.now colours.now)) result }
     ensures failed { IsCounted (W.failed sink.old) (W.failed sink.new) result }
@@ -183,7 +174,6 @@ fn buffer_option<W: Sink>(
     sink: &mut W,
 ) -> Result<(), WriteFault>
     requires option { option < length problem.now.options }
-    requires failed { W.failed sink.old < 2 ^ 64 - 1 }
     ensures bytes { IsBuffered buffer.old buffer.new (W.contents sink.old) (W.contents sink.new)
         (option_text problem.now option) result }
     ensures failed { IsCounted (W.failed sink.old) (W.failed sink.new) result }
@@ -201,7 +191,6 @@ fn buffer_options<W: Sink>(
     sink: &mut W,
 ) -> Result<(), WriteFault>
     requires options { AreOptions problem.now options.now }
-    requires failed { W.failed sink.old < 2 ^ 64 - 1 }
     ensures bytes { IsBuffered buffer.old buffer.new (W.contents sink.old) (W.contents sink.new)
         (flat_map (option_text problem.now) options.now) result }
     ensures failed { IsCounted (W.failed sink.old) (W.failed sink.new) result }
@@ -222,7 +211,6 @@ fn buffer_line_end<W: Sink>(
     sink: &mut W,
 ) -> Result<(), WriteFault>
     requires options { AreOptions problem.now options.now }
-    requires failed { W.failed sink.old < 2 ^ 64 - 1 }
     ensures bytes { IsBuffered buffer.old buffer.new (W.contents sink.old) (W.contents sink.new)
         (10 ∷ flat_map (option_text problem.now) options.now) result }
     ensures failed { IsCounted (W.failed sink.old) (W.failed sink.new) result }
@@ -239,7 +227,6 @@ pub fn buffer_cover<W: Sink>(
     sink: &mut W,
 ) -> Result<(), WriteFault>
     requires options { AreOptions problem.now options.now }
-    requires failed { W.failed sink.old < 2 ^ 64 - 1 }
     ensures bytes { IsBuffered buffer.old buffer.new (W.contents sink.old) (W.contents sink.new)
         (cover_text problem.now options.now) result }
     ensures failed { IsCounted (W.failed sink.old) (W.failed sink.new) result }

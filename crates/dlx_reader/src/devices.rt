@@ -1,6 +1,6 @@
 //! Readers and writers that count their failures.
 
-ghost use Rattle.std.specs.Prelude.{◌≡◌, ◌-◌, ◌<◌, ◌≤◌, ◌^◌, ℕ, length, IfOk};
+ghost use Rattle.std.specs.Prelude.{◌≡◌, ◌<◌, ◌≤◌, ℕ, length, IfOk};
 ghost use Rattle.std.specs.Io.KnownBytes.{ReadConsumes, WriteAppends};
 ghost use Rattle.dlx_reader.specs.Devices.{IsCounted};
 
@@ -15,16 +15,15 @@ pub struct DeviceFault;
 pub trait Source: io::Read {
     ghost failed: { Self → ℕ };
 
-    /// How often the reader has failed so far.
+    /// How often the reader has failed so far. The count stops at the greatest number.
     fn failures(&self) -> u64
         ensures { result ≡ failed self.now };
 
     /// One read into the buffer. It answers the number of bytes read, which is 0 only at the end or where the
     /// buffer is empty.
     ///
-    /// A fault comes only where the read failed: then nothing was read, and `failures` rose.
+    /// A fault comes only where the read failed: then nothing was read, and `failures` counts one more.
     fn fetch(&mut self, buffer: &mut [u8]) -> Result<usize, DeviceFault>
-        requires { failed self.old < 2 ^ 64 - 1 }
         ensures bound { IfOk result (λ count. count ≤ length buffer.new) }
         ensures bytes { ReadConsumes (Self.remaining self.old)
             (Self.remaining self.new) result buffer.new }
@@ -35,16 +34,15 @@ pub trait Source: io::Read {
 pub trait Sink: io::Write {
     ghost failed: { Self → ℕ };
 
-    /// How often the writer has failed so far.
+    /// How often the writer has failed so far. The count stops at the greatest number.
     fn failures(&self) -> u64
         ensures { result ≡ failed self.now };
 
     /// One write. It answers how many bytes of the piece it took, which is at least one unless the piece is empty.
     ///
     /// A fault comes only where the write failed, or took nothing of a piece that isn't empty: then nothing was
-    /// written, and `failures` rose.
+    /// written, and `failures` counts one more.
     fn put(&mut self, piece: &[u8]) -> Result<usize, DeviceFault>
-        requires { failed self.old < 2 ^ 64 - 1 }
         ensures bound { IfOk result (λ count. count ≤ length piece.now) }
         ensures some { IfOk result (λ count. 0 < length piece.now → 0 < count) }
         ensures bytes { WriteAppends (Self.contents self.old)
@@ -118,7 +116,7 @@ impl<R: Read> Source for CountedReader<R> {
         match read_again(&mut self.inner, buffer) {
             Ok(count) => Ok(count),
             Err(_) => {
-                self.failures += 1;
+                self.failures = self.failures.saturating_add(1);
                 Err(DeviceFault)
             }
         }
@@ -165,7 +163,7 @@ impl<W: Write> Sink for CountedWriter<W> {
             Ok(count) if count > 0 || piece.is_empty() => Ok(count),
             // (nothing taken is a failure, too: a caller that writes until all is taken would else go on for ever)
             _ => {
-                self.failures += 1;
+                self.failures = self.failures.saturating_add(1);
                 Err(DeviceFault)
             }
         }

@@ -1,6 +1,5 @@
 //! Answers to text.
 
-ghost use Rattle.std.specs.Prelude.{◌-◌, ◌<◌, ◌^◌};
 ghost use Rattle.dlx_reader.specs.Devices.{IsWritten, IsCounted};
 ghost use Rattle.dlx_reader.specs.Writing.{cover_text, answer_text, IsWritable};
 ghost use Rattle.cover_problem.specs.Prefix.{AreOptions};
@@ -18,7 +17,6 @@ pub struct WriteFault;
 ///
 /// A fault comes only where a write failed. Then a beginning of the bytes was written, and not all of them.
 pub fn write_bytes<W: Sink>(bytes: &[u8], sink: &mut W) -> Result<(), WriteFault>
-    requires { W.failed sink.old < 2 ^ 64 - 1 }
     ensures bytes { IsWritten (W.contents sink.old) (W.contents sink.new) bytes.now result }
     ensures failed { IsCounted (W.failed sink.old) (W.failed sink.new) result }
 {
@@ -36,7 +34,6 @@ pub fn write_bytes<W: Sink>(bytes: &[u8], sink: &mut W) -> Result<(), WriteFault
 /// Writes the text of a cover, many lines by one write.
 fn write_cover<W: Sink>(problem: &Problem, options: &[u16], sink: &mut W) -> Result<(), WriteFault>
     requires options { AreOptions problem.now options.now }
-    requires failed { W.failed sink.old < 2 ^ 64 - 1 }
     ensures bytes { IsWritten (W.contents sink.old) (W.contents sink.new)
         (cover_text problem.now options.now) result }
     ensures failed { IsCounted (W.failed sink.old) (W.failed sink.new) result }
@@ -59,7 +56,6 @@ pub fn write_answer<W: Sink>(
     sink: &mut W,
 ) -> Result<(), WriteFault>
     requires order { IsWritable problem.now answer.now }
-    requires failed { W.failed sink.old < 2 ^ 64 - 1 }
     ensures bytes { IsWritten (W.contents sink.old) (W.contents sink.new)
         (answer_text problem.now answer.now) result }
     ensures failed { IsCounted (W.failed sink.old) (W.failed sink.new) result }

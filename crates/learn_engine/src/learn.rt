@@ -1,7 +1,8 @@
 //! `learn`: any exact cover of a file's problem.
 
-ghost use Rattle.std.specs.Prelude.{◌≡◌, ◌≢◌, ◌-◌, ◌<◌, ◌^◌, IfOk, IfSome};
+ghost use Rattle.std.specs.Prelude.{◌≡◌, ◌≢◌, IfOk, IfSome};
 ghost use Rattle.std.specs.Io.KnownBytes.{IsAtEnd};
+ghost use Rattle.dlx_reader.specs.Devices.{failed_once};
 ghost use Rattle.learn_engine.specs.Learn.{LearnSays, found_said};
 ghost use Rattle.learner.specs.Found.{IsTrueOf};
 ghost use Rattle.search_engines.specs.Engines.{IsEnded, refuses_none};
@@ -19,10 +20,9 @@ pub type LearnEnd = EngineEnd;
 /// Writes what a learner found, and returns the status.
 fn write_found<W: Sink>(problem: &Problem, found: Found, sink: &mut W) -> Result<u8, EngineFault>
     requires found { IsTrueOf problem.now found }
-    requires failed { W.failed sink.old < 2 ^ 64 - 1 }
     ensures output { IsOutput (found_said problem.now found) (W.contents sink.old)
         (W.contents sink.new) result }
-    ensures failed { result ≡ Err EngineFault.Write → W.failed sink.old < W.failed sink.new }
+    ensures failed { result ≡ Err EngineFault.Write → W.failed sink.new ≡ failed_once (W.failed sink.old) }
 {
     match found {
         Found::Cover(options) => write_published(problem, Some(&Answer::Cover(options)), sink),
@@ -57,10 +57,9 @@ pub fn learn_problem<L: LearnerWatch, W: Sink>(
     watch: &mut L,
     sink: &mut W,
 ) -> Result<u8, EngineFault>
-    requires { W.failed sink.old < 2 ^ 64 - 1 }
     ensures output { IsOutputOf (LearnSays problem.now) (W.contents sink.old)
         (W.contents sink.new) result }
-    ensures failed { result ≡ Err EngineFault.Write → W.failed sink.old < W.failed sink.new }
+    ensures failed { result ≡ Err EngineFault.Write → W.failed sink.new ≡ failed_once (W.failed sink.old) }
 {
     match found_of(alloc, problem, settings, watch) {
         Ok(found) => write_found(problem, found, sink),
@@ -82,14 +81,12 @@ pub fn learn_engine<R: Source, W: Sink, L: LearnerWatch>(
     sink: &mut W,
     watch: &mut L,
 ) -> Result<LearnEnd, EngineFault>
-    requires source { R.failed source.old < 2 ^ 64 - 1 }
-    requires sink { W.failed sink.old < 2 ^ 64 - 1 }
     ensures ended { IfSome (R.remaining source.old) (λ text.
         IsEnded LearnSays refuses_none text (W.contents sink.old) (W.contents sink.new) result) }
     ensures read { result ≢ Err EngineFault.Read → result ≢ Err EngineFault.Memory →
         IsAtEnd (R.remaining source.new) }
-    ensures read_fault { result ≡ Err EngineFault.Read → R.failed source.old < R.failed source.new }
-    ensures write_fault { result ≡ Err EngineFault.Write → W.failed sink.old < W.failed sink.new }
+    ensures read_fault { result ≡ Err EngineFault.Read → R.failed source.new ≡ failed_once (R.failed source.old) }
+    ensures write_fault { result ≡ Err EngineFault.Write → W.failed sink.new ≡ failed_once (W.failed sink.old) }
 {
     let text = read_all(alloc, source)?;
     let read = problem_of(alloc, &text)?;

@@ -1,7 +1,8 @@
 //! `why`: a reason why a file's problem has no exact cover.
 
-ghost use Rattle.std.specs.Prelude.{◌≡◌, ◌≢◌, ◌-◌, ◌<◌, ◌^◌, Some, IfSome};
+ghost use Rattle.std.specs.Prelude.{◌≡◌, ◌≢◌, Some, IfSome};
 ghost use Rattle.std.specs.Io.KnownBytes.{IsAtEnd};
+ghost use Rattle.dlx_reader.specs.Devices.{failed_once};
 ghost use Rattle.reason_engine.specs.Why.{WhySays, why_said};
 ghost use Rattle.search_engines.specs.Engines.{IsEnded, refuses_none};
 ghost use Rattle.search_engines.specs.Output.{IsOutput, IsOutputOf};
@@ -25,10 +26,9 @@ fn write_cause<W: Sink>(
     cause: &Cause,
     sink: &mut W,
 ) -> Result<u8, EngineFault>
-    requires { W.failed sink.old < 2 ^ 64 - 1 }
     ensures output { IsOutput (why_said problem.now (Some cause.now)) (W.contents sink.old)
         (W.contents sink.new) result }
-    ensures failed { result ≡ Err EngineFault.Write → W.failed sink.old < W.failed sink.new }
+    ensures failed { result ≡ Err EngineFault.Write → W.failed sink.new ≡ failed_once (W.failed sink.old) }
 {
     // (the whole text before its first byte is written, so that nothing is written if memory runs out)
     let Ok(text) = text_of(alloc, problem, cause) else {
@@ -39,10 +39,9 @@ fn write_cause<W: Sink>(
 
 /// Writes that no reason was found, and returns the status.
 fn write_none_found<W: Sink>(_problem: &Problem, sink: &mut W) -> Result<u8, EngineFault>
-    requires { W.failed sink.old < 2 ^ 64 - 1 }
     ensures output { IsOutputOf (WhySays _problem.now) (W.contents sink.old)
         (W.contents sink.new) result }
-    ensures failed { result ≡ Err EngineFault.Write → W.failed sink.old < W.failed sink.new }
+    ensures failed { result ≡ Err EngineFault.Write → W.failed sink.new ≡ failed_once (W.failed sink.old) }
 {
     write_line(b"no reason found\n", 4, sink)
 }
@@ -66,10 +65,9 @@ pub fn why_problem<T: ReasonListener, W: Sink>(
     listener: &mut T,
     sink: &mut W,
 ) -> Result<u8, EngineFault>
-    requires { W.failed sink.old < 2 ^ 64 - 1 }
     ensures output { IsOutputOf (WhySays problem.now) (W.contents sink.old)
         (W.contents sink.new) result }
-    ensures failed { result ≡ Err EngineFault.Write → W.failed sink.old < W.failed sink.new }
+    ensures failed { result ≡ Err EngineFault.Write → W.failed sink.new ≡ failed_once (W.failed sink.old) }
 {
     match find_cause_until(alloc, problem, &mut Endless) {
         Ok(Some(cause)) => {
@@ -93,14 +91,12 @@ pub fn why_engine<R: Source, W: Sink>(
     source: &mut R,
     sink: &mut W,
 ) -> Result<WhyEnd, EngineFault>
-    requires source { R.failed source.old < 2 ^ 64 - 1 }
-    requires sink { W.failed sink.old < 2 ^ 64 - 1 }
     ensures ended { IfSome (R.remaining source.old) (λ text.
         IsEnded WhySays refuses_none text (W.contents sink.old) (W.contents sink.new) result) }
     ensures read { result ≢ Err EngineFault.Read → result ≢ Err EngineFault.Memory →
         IsAtEnd (R.remaining source.new) }
-    ensures read_fault { result ≡ Err EngineFault.Read → R.failed source.old < R.failed source.new }
-    ensures write_fault { result ≡ Err EngineFault.Write → W.failed sink.old < W.failed sink.new }
+    ensures read_fault { result ≡ Err EngineFault.Read → R.failed source.new ≡ failed_once (R.failed source.old) }
+    ensures write_fault { result ≡ Err EngineFault.Write → W.failed sink.new ≡ failed_once (W.failed sink.old) }
 {
     let text = read_all(alloc, source)?;
     let read = problem_of(alloc, &text)?;

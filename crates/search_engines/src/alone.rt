@@ -1,9 +1,10 @@
 //! `alone`: one thread searches a file's problem.
 
-ghost use Rattle.std.specs.Prelude.{◌≡◌, ◌≢◌, ◌-◌, ◌<◌, ◌≤◌, ◌^◌, false, IfSome};
+ghost use Rattle.std.specs.Prelude.{◌≡◌, ◌≢◌, ◌≤◌, false, IfSome};
 ghost use Rattle.std.specs.Io.KnownBytes.{IsAtEnd};
 ghost use Rattle.brancher.specs.Visit.{outcome_told};
 ghost use Rattle.cover_problem.specs.Search.{Covers};
+ghost use Rattle.dlx_reader.specs.Devices.{failed_once};
 ghost use Rattle.search_engines.specs.Alone.{AloneSays, alone_said, decided_said, outcome_said};
 ghost use Rattle.search_engines.specs.Engines.{IsEnded, refuses_none};
 ghost use Rattle.search_engines.specs.Output.{IsOutput};
@@ -30,10 +31,9 @@ fn write_found<W: Sink>(
     chosen: &[u16],
     sink: &mut W,
 ) -> Result<u8, EngineFault>
-    requires { W.failed sink.old < 2 ^ 64 - 1 }
     ensures output { IsOutput (outcome_said problem.now (Covers chosen.now)) (W.contents sink.old)
         (W.contents sink.new) result }
-    ensures failed { result ≡ Err EngineFault.Write → W.failed sink.old < W.failed sink.new }
+    ensures failed { result ≡ Err EngineFault.Write → W.failed sink.new ≡ failed_once (W.failed sink.old) }
 {
     let Ok(options) = in_order(alloc, problem, chosen) else {
         return Err(EngineFault::Memory);
@@ -49,10 +49,9 @@ fn write_outcome<W: Sink>(
     found: &[u16],
     sink: &mut W,
 ) -> Result<u8, EngineFault>
-    requires { W.failed sink.old < 2 ^ 64 - 1 }
     ensures output { IsOutput (outcome_said problem.now (outcome_told outcome found.now))
         (W.contents sink.old) (W.contents sink.new) result }
-    ensures failed { result ≡ Err EngineFault.Write → W.failed sink.old < W.failed sink.new }
+    ensures failed { result ≡ Err EngineFault.Write → W.failed sink.new ≡ failed_once (W.failed sink.old) }
 {
     match outcome {
         Outcome::Cover => write_found(alloc, problem, found, sink),
@@ -72,10 +71,9 @@ pub(crate) fn write_alone<V: EndWatch, W: Sink>(
 ) -> Result<u8, EngineFault>
     requires fuel { 1 ≤ fuel }
     requires watch { V.may_stop ≡ false }
-    requires failed { W.failed sink.old < 2 ^ 64 - 1 }
     ensures output { IsOutput (alone_said problem.now fuel) (W.contents sink.old)
         (W.contents sink.new) result }
-    ensures failed { result ≡ Err EngineFault.Write → W.failed sink.old < W.failed sink.new }
+    ensures failed { result ≡ Err EngineFault.Write → W.failed sink.new ≡ failed_once (W.failed sink.old) }
 {
     let Ok(tables) = Tables::build(alloc, problem) else {
         return Err(EngineFault::Memory);
@@ -97,10 +95,9 @@ pub(crate) fn write_decided<V: EndWatch, W: Sink, C: Clock>(
     sink: &mut W,
 ) -> Result<u8, EngineFault>
     requires watch { V.may_stop ≡ false }
-    requires failed { W.failed sink.old < 2 ^ 64 - 1 }
     ensures output { IsOutput (decided_said problem.now) (W.contents sink.old)
         (W.contents sink.new) result }
-    ensures failed { result ≡ Err EngineFault.Write → W.failed sink.old < W.failed sink.new }
+    ensures failed { result ≡ Err EngineFault.Write → W.failed sink.new ≡ failed_once (W.failed sink.old) }
 {
     let Ok(answer) = first_answer(clock, alloc, problem, watch) else {
         return Err(EngineFault::Memory);
@@ -123,15 +120,13 @@ pub fn alone_engine<R: Source, W: Sink>(
     sink: &mut W,
 ) -> Result<AloneEnd, EngineFault>
     requires fuel { 1 ≤ fuel }
-    requires source { R.failed source.old < 2 ^ 64 - 1 }
-    requires sink { W.failed sink.old < 2 ^ 64 - 1 }
     ensures ended { IfSome (R.remaining source.old) (λ text.
         IsEnded (AloneSays fuel) refuses_none text (W.contents sink.old)
         (W.contents sink.new) result) }
     ensures read { result ≢ Err EngineFault.Read → result ≢ Err EngineFault.Memory →
         IsAtEnd (R.remaining source.new) }
-    ensures read_fault { result ≡ Err EngineFault.Read → R.failed source.old < R.failed source.new }
-    ensures write_fault { result ≡ Err EngineFault.Write → W.failed sink.old < W.failed sink.new }
+    ensures read_fault { result ≡ Err EngineFault.Read → R.failed source.new ≡ failed_once (R.failed source.old) }
+    ensures write_fault { result ≡ Err EngineFault.Write → W.failed sink.new ≡ failed_once (W.failed sink.old) }
 {
     let read = read_whole(alloc, source)?;
     let status = write_alone(alloc, &read.problem, fuel, &mut Unwatched, sink)?;

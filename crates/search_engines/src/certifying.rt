@@ -1,7 +1,8 @@
 //! The answer to a problem, and what shows that there is no cover, for whoever is to write that down.
 
-ghost use Rattle.std.specs.Prelude.{◌≡◌, ◌-◌, ◌<◌, ◌^◌, [], true, false, None, IfOk, IfSome, MatchOption};
+ghost use Rattle.std.specs.Prelude.{◌≡◌, [], true, false, None, IfOk, IfSome, MatchOption};
 ghost use Rattle.cover_problem.specs.Search.{first};
+ghost use Rattle.dlx_reader.specs.Devices.{failed_once};
 ghost use Rattle.dlx_reader.specs.Writing.{IsWritable};
 ghost use Rattle.search_engines.specs.Alone.{answer_by, decided_said};
 ghost use Rattle.search_engines.specs.Output.{IsOutput, IsOutputOf};
@@ -119,10 +120,9 @@ pub fn write_certified_within<V: EndWatch, T: Trace + ReasonListener, W: Sink, C
     listener: &mut T,
     sink: &mut W,
 ) -> Result<u8, EngineFault>
-    requires { W.failed sink.old < 2 ^ 64 - 1 }
     ensures output { IsOutputOf (AloneSaysWithin None problem.now)
         (W.contents sink.old) (W.contents sink.new) result }
-    ensures failed { result ≡ Err EngineFault.Write → W.failed sink.old < W.failed sink.new }
+    ensures failed { result ≡ Err EngineFault.Write → W.failed sink.new ≡ failed_once (W.failed sink.old) }
 {
     let Ok(answer) = certified_until(clock, alloc, problem, watch, listener) else {
         return Err(EngineFault::Memory);
@@ -145,10 +145,9 @@ pub fn write_certified<V: EndWatch, T: Trace + ReasonListener, W: Sink, C: Clock
     sink: &mut W,
 ) -> Result<u8, EngineFault>
     requires watch { V.may_stop ≡ false }
-    requires failed { W.failed sink.old < 2 ^ 64 - 1 }
     ensures output { IsOutput (decided_said problem.now) (W.contents sink.old)
         (W.contents sink.new) result }
-    ensures failed { result ≡ Err EngineFault.Write → W.failed sink.old < W.failed sink.new }
+    ensures failed { result ≡ Err EngineFault.Write → W.failed sink.new ≡ failed_once (W.failed sink.old) }
 {
     let Ok(answer) = certified_first(clock, alloc, problem, watch, listener) else {
         return Err(EngineFault::Memory);

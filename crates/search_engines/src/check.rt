@@ -1,10 +1,11 @@
 //! `check`: tests an answer to a file's problem.
 
-ghost use Rattle.std.specs.Prelude.{◌≡◌, ◌≢◌, ◌-◌, ◌<◌, ◌≤◌, ◌^◌, ◌⊎◌, ℕ, List, [], length, IfOk, IfSome};
+ghost use Rattle.std.specs.Prelude.{◌≡◌, ◌≢◌, ◌<◌, ◌≤◌, ◌⊎◌, ℕ, List, [], length, IfOk, IfSome};
 ghost use Rattle.std.specs.Io.KnownBytes.{IsAtEnd};
 ghost use Rattle.brancher.specs.Visit.{outcome_told};
 ghost use Rattle.cover_problem.specs.Search.{first, found_outcome, outcome};
 ghost use Rattle.cover_problem.specs.Verdict.{verdict_of};
+ghost use Rattle.dlx_reader.specs.Devices.{failed_once};
 ghost use Rattle.search_engines.specs.Check.{CheckRefuses, CheckSays, DecidedCheckSays, IsListed, IsListedAnswer, check_said, decided_check_said, item_said, none_said, verdict_said};
 ghost use Rattle.search_engines.specs.Engines.{IsEnded};
 ghost use Rattle.search_engines.specs.Output.{IsOutput};
@@ -48,10 +49,9 @@ fn write_wrong<W: Sink>(
     sink: &mut W,
 ) -> Result<u8, EngineFault>
     requires item { item < length problem.now.names }
-    requires failed { W.failed sink.old < 2 ^ 64 - 1 }
     ensures output { IsOutput (item_said problem.now wrong.now item) (W.contents sink.old)
         (W.contents sink.new) result }
-    ensures failed { result ≡ Err EngineFault.Write → W.failed sink.old < W.failed sink.new }
+    ensures failed { result ≡ Err EngineFault.Write → W.failed sink.new ≡ failed_once (W.failed sink.old) }
 {
     // (the whole line before its first byte is written, so that nothing is written if memory runs out)
     match item_line(alloc, problem, wrong, item) {
@@ -68,10 +68,9 @@ pub(crate) fn write_verdict<W: Sink>(
     sink: &mut W,
 ) -> Result<u8, EngineFault>
     requires options { IsListed problem.now options.now }
-    requires failed { W.failed sink.old < 2 ^ 64 - 1 }
     ensures output { IsOutput (verdict_said problem.now (verdict_of problem.now options.now))
         (W.contents sink.old) (W.contents sink.new) result }
-    ensures failed { result ≡ Err EngineFault.Write → W.failed sink.old < W.failed sink.new }
+    ensures failed { result ≡ Err EngineFault.Write → W.failed sink.new ≡ failed_once (W.failed sink.old) }
 {
     match check_cover(problem, options) {
         Verdict::Exact => write_line(b"right\n", 0, sink),
@@ -99,10 +98,9 @@ fn searched(alloc: Global, problem: &Problem, fuel: u64) -> Result<Outcome, Allo
 
 /// Writes whether none is right where a search has this outcome, and returns the status.
 fn write_outcome_of_none<W: Sink>(outcome: Outcome, sink: &mut W) -> Result<u8, EngineFault>
-    requires failed { W.failed sink.old < 2 ^ 64 - 1 }
     ensures output { (found : List ℕ) → IsOutput (none_said (outcome_told outcome found))
         (W.contents sink.old) (W.contents sink.new) result }
-    ensures failed { result ≡ Err EngineFault.Write → W.failed sink.old < W.failed sink.new }
+    ensures failed { result ≡ Err EngineFault.Write → W.failed sink.new ≡ failed_once (W.failed sink.old) }
 {
     match outcome {
         Outcome::Cover => write_line(b"wrong: a cover exists\n", 1, sink),
@@ -119,10 +117,9 @@ fn write_none<W: Sink>(
     sink: &mut W,
 ) -> Result<u8, EngineFault>
     requires fuel { 1 ≤ fuel }
-    requires failed { W.failed sink.old < 2 ^ 64 - 1 }
     ensures output { IsOutput (none_said (outcome problem.now [] fuel)) (W.contents sink.old)
         (W.contents sink.new) result }
-    ensures failed { result ≡ Err EngineFault.Write → W.failed sink.old < W.failed sink.new }
+    ensures failed { result ≡ Err EngineFault.Write → W.failed sink.new ≡ failed_once (W.failed sink.old) }
 {
     match searched(alloc, problem, fuel) {
         Ok(outcome) => write_outcome_of_none(outcome, sink),
@@ -137,10 +134,9 @@ fn write_none_decided<W: Sink, C: Clock>(
     problem: &Problem,
     sink: &mut W,
 ) -> Result<u8, EngineFault>
-    requires failed { W.failed sink.old < 2 ^ 64 - 1 }
     ensures output { IsOutput (none_said (found_outcome (first problem.now [])))
         (W.contents sink.old) (W.contents sink.new) result }
-    ensures failed { result ≡ Err EngineFault.Write → W.failed sink.old < W.failed sink.new }
+    ensures failed { result ≡ Err EngineFault.Write → W.failed sink.new ≡ failed_once (W.failed sink.old) }
 {
     match first_answer(clock, alloc, problem, &mut Unwatched) {
         Ok(Answer::Cover(_)) => write_line(b"wrong: a cover exists\n", 1, sink),
@@ -160,10 +156,9 @@ fn write_check<W: Sink>(
 ) -> Result<u8, EngineFault>
     requires options { IsListedAnswer problem.now answer.now }
     requires fuel { 1 ≤ fuel }
-    requires failed { W.failed sink.old < 2 ^ 64 - 1 }
     ensures output { IsOutput (check_said problem.now answer.now fuel) (W.contents sink.old)
         (W.contents sink.new) result }
-    ensures failed { result ≡ Err EngineFault.Write → W.failed sink.old < W.failed sink.new }
+    ensures failed { result ≡ Err EngineFault.Write → W.failed sink.new ≡ failed_once (W.failed sink.old) }
 {
     match answer {
         Answer::Cover(options) => write_verdict(alloc, problem, options.as_slice(), sink),
@@ -181,10 +176,9 @@ fn write_check_decided<W: Sink, C: Clock>(
     sink: &mut W,
 ) -> Result<u8, EngineFault>
     requires options { IsListedAnswer problem.now answer.now }
-    requires failed { W.failed sink.old < 2 ^ 64 - 1 }
     ensures output { IsOutput (decided_check_said problem.now answer.now) (W.contents sink.old)
         (W.contents sink.new) result }
-    ensures failed { result ≡ Err EngineFault.Write → W.failed sink.old < W.failed sink.new }
+    ensures failed { result ≡ Err EngineFault.Write → W.failed sink.new ≡ failed_once (W.failed sink.old) }
 {
     match answer {
         Answer::Cover(options) => write_verdict(alloc, problem, options.as_slice(), sink),
@@ -208,9 +202,6 @@ pub fn check_engine<R: Source, S: Source, W: Sink>(
     sink: &mut W,
 ) -> Result<CheckEnd, EngineFault>
     requires fuel { 1 ≤ fuel }
-    requires file { R.failed file.old < 2 ^ 64 - 1 }
-    requires answer { S.failed answer.old < 2 ^ 64 - 1 }
-    requires sink { W.failed sink.old < 2 ^ 64 - 1 }
     ensures ended { IfSome (R.remaining file.old) (λ text. IfSome (S.remaining answer.old) (λ given.
         IsEnded (CheckSays given fuel) (CheckRefuses given) text (W.contents sink.old)
         (W.contents sink.new) result)) }
@@ -221,8 +212,8 @@ pub fn check_engine<R: Source, S: Source, W: Sink>(
     ensures answer_read { result ≢ Err EngineFault.Read → result ≢ Err EngineFault.Memory →
         IsAtEnd (S.remaining answer.new) }
     ensures read_fault { result ≡ Err EngineFault.Read →
-        (R.failed file.old < R.failed file.new) ⊎ (S.failed answer.old < S.failed answer.new) }
-    ensures write_fault { result ≡ Err EngineFault.Write → W.failed sink.old < W.failed sink.new }
+        (R.failed file.new ≡ failed_once (R.failed file.old)) ⊎ (S.failed answer.new ≡ failed_once (S.failed answer.old)) }
+    ensures write_fault { result ≡ Err EngineFault.Write → W.failed sink.new ≡ failed_once (W.failed sink.old) }
 {
     let given = read_given(alloc, file, answer)?;
     let status = write_check(alloc, &given.read.problem, &given.answer, fuel, sink)?;
@@ -238,9 +229,6 @@ pub fn check_unlimited<R: Source, S: Source, W: Sink, C: Clock>(
     answer: &mut S,
     sink: &mut W,
 ) -> Result<CheckEnd, EngineFault>
-    requires file { R.failed file.old < 2 ^ 64 - 1 }
-    requires answer { S.failed answer.old < 2 ^ 64 - 1 }
-    requires sink { W.failed sink.old < 2 ^ 64 - 1 }
     ensures ended { IfSome (R.remaining file.old) (λ text. IfSome (S.remaining answer.old) (λ given.
         IsEnded (DecidedCheckSays given) (CheckRefuses given) text (W.contents sink.old)
         (W.contents sink.new) result)) }
@@ -249,8 +237,8 @@ pub fn check_unlimited<R: Source, S: Source, W: Sink, C: Clock>(
     ensures answer_read { result ≢ Err EngineFault.Read → result ≢ Err EngineFault.Memory →
         IsAtEnd (S.remaining answer.new) }
     ensures read_fault { result ≡ Err EngineFault.Read →
-        (R.failed file.old < R.failed file.new) ⊎ (S.failed answer.old < S.failed answer.new) }
-    ensures write_fault { result ≡ Err EngineFault.Write → W.failed sink.old < W.failed sink.new }
+        (R.failed file.new ≡ failed_once (R.failed file.old)) ⊎ (S.failed answer.new ≡ failed_once (S.failed answer.old)) }
+    ensures write_fault { result ≡ Err EngineFault.Write → W.failed sink.new ≡ failed_once (W.failed sink.old) }
 {
     let given = read_given(alloc, file, answer)?;
     let status = write_check_decided(clock, alloc, &given.read.problem, &given.answer, sink)?;

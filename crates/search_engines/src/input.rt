@@ -1,8 +1,9 @@
 //! Reading a source to its end, and the problem or the answer that its bytes spell.
 
-ghost use Rattle.std.specs.Prelude.{◌≡◌, ◌≢◌, ◌-◌, ◌<◌, ◌^◌, ◌⊎◌, IfErr, IfOk, IfSome};
+ghost use Rattle.std.specs.Prelude.{◌≡◌, ◌≢◌, ◌⊎◌, IfErr, IfOk, IfSome};
 ghost use Rattle.std.specs.Io.KnownBytes.{Consumes, IsAtEnd};
 ghost use Rattle.dlx_reader.specs.Answers.{IsAnswerOf};
+ghost use Rattle.dlx_reader.specs.Devices.{failed_once};
 ghost use Rattle.dlx_reader.specs.ProblemOf.{IsProblemOf};
 ghost use Rattle.search_engines.specs.Check.{IsListedAnswer, IsSourcesFault, IsTextsFault};
 ghost use Rattle.search_engines.specs.Engines.{IsReadFault, IsFileFault, IsAnswerFault, IsSourceFault};
@@ -21,11 +22,10 @@ const PIECE: usize = 16384;
 ///
 /// `Read` if a read failed, and `Memory`. After either the bytes that were read are lost: the source goes on behind them.
 pub fn read_all<R: Source>(alloc: Global, source: &mut R) -> Result<Vec<u8>, EngineFault>
-    requires { R.failed source.old < 2 ^ 64 - 1 }
     ensures read { IfOk result (λ text.
         Consumes (R.remaining source.old) (R.remaining source.new) text.items) }
     ensures end { IfOk result (λ _. IsAtEnd (R.remaining source.new)) }
-    ensures failed { result ≡ Err EngineFault.Read → R.failed source.old < R.failed source.new }
+    ensures failed { result ≡ Err EngineFault.Read → R.failed source.new ≡ failed_once (R.failed source.old) }
     ensures fault { IfErr result IsReadFault }
 {
     let mut text = Vec::new(alloc);
@@ -67,14 +67,13 @@ pub fn problem_of(alloc: Global, text: &[u8]) -> Result<Read, EngineFault>
 ///
 /// `Read` if a read failed, `File` with the text's first fault, and `Memory`.
 pub fn read_whole<R: Source>(alloc: Global, source: &mut R) -> Result<Read, EngineFault>
-    requires { R.failed source.old < 2 ^ 64 - 1 }
     ensures problem { IfOk result (λ read.
         IfSome (R.remaining source.old) (λ text. IsProblemOf text read.problem read.ignored)) }
     ensures read { result ≢ Err EngineFault.Read → result ≢ Err EngineFault.Memory →
         IsAtEnd (R.remaining source.new) }
     ensures fault { IfErr result (λ fault.
         IfSome (R.remaining source.old) (λ text. IsSourceFault text fault)) }
-    ensures failed { result ≡ Err EngineFault.Read → R.failed source.old < R.failed source.new }
+    ensures failed { result ≡ Err EngineFault.Read → R.failed source.new ≡ failed_once (R.failed source.old) }
     ensures unwritten { result ≢ Err EngineFault.Write }
 {
     let text = read_all(alloc, source)?;
@@ -134,8 +133,6 @@ pub fn read_given<R: Source, S: Source>(
     file: &mut R,
     answer: &mut S,
 ) -> Result<Given, EngineFault>
-    requires file { R.failed file.old < 2 ^ 64 - 1 }
-    requires answer { S.failed answer.old < 2 ^ 64 - 1 }
     ensures problem { IfOk result (λ given. IfSome (R.remaining file.old)
         (λ text. IsProblemOf text given.read.problem given.read.ignored)) }
     ensures answer { IfOk result (λ given. IfSome (S.remaining answer.old)
@@ -148,7 +145,7 @@ pub fn read_given<R: Source, S: Source>(
     ensures answer_read { result ≢ Err EngineFault.Read → result ≢ Err EngineFault.Memory →
         IsAtEnd (S.remaining answer.new) }
     ensures read_fault { result ≡ Err EngineFault.Read →
-        (R.failed file.old < R.failed file.new) ⊎ (S.failed answer.old < S.failed answer.new) }
+        (R.failed file.new ≡ failed_once (R.failed file.old)) ⊎ (S.failed answer.new ≡ failed_once (S.failed answer.old)) }
     ensures unwritten { result ≢ Err EngineFault.Write }
 {
     let file = read_all(alloc, file)?;

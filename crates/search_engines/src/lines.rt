@@ -1,7 +1,7 @@
 //! The lines that an engine writes, each with the status that goes with it.
 
-ghost use Rattle.std.specs.Prelude.{◌≡◌, ◌-◌, ◌<◌, ◌^◌, option_map, IfErr, IfSome};
-ghost use Rattle.dlx_reader.specs.Devices.{IsCounted};
+ghost use Rattle.std.specs.Prelude.{◌≡◌, option_map, IfErr, IfSome};
+ghost use Rattle.dlx_reader.specs.Devices.{failed_once, IsCounted};
 ghost use Rattle.dlx_reader.specs.Writing.{IsWritable};
 ghost use Rattle.search_engines.specs.Output.{answer_said, published_said, said, IsOutput};
 
@@ -11,10 +11,9 @@ use dlx_reader::{Sink, WriteFault, write_answer, write_bytes};
 
 /// Writes all of a text, and returns the status that is given for it. The only fault is `Write`; then a beginning was written.
 pub fn write_line<W: Sink>(text: &[u8], status: u8, sink: &mut W) -> Result<u8, EngineFault>
-    requires { W.failed sink.old < 2 ^ 64 - 1 }
     ensures output { IsOutput (said text.now status) (W.contents sink.old)
         (W.contents sink.new) result }
-    ensures failed { result ≡ Err EngineFault.Write → W.failed sink.old < W.failed sink.new }
+    ensures failed { result ≡ Err EngineFault.Write → W.failed sink.new ≡ failed_once (W.failed sink.old) }
     ensures fault { IfErr result (λ fault. fault ≡ EngineFault.Write) }
     ensures counted { IsCounted (W.failed sink.old) (W.failed sink.new) result }
 {
@@ -31,10 +30,9 @@ pub fn write_solution<W: Sink>(
     sink: &mut W,
 ) -> Result<u8, EngineFault>
     requires order { IsWritable problem.now answer.now }
-    requires failed { W.failed sink.old < 2 ^ 64 - 1 }
     ensures output { IsOutput (answer_said problem.now answer.now) (W.contents sink.old)
         (W.contents sink.new) result }
-    ensures failed { result ≡ Err EngineFault.Write → W.failed sink.old < W.failed sink.new }
+    ensures failed { result ≡ Err EngineFault.Write → W.failed sink.new ≡ failed_once (W.failed sink.old) }
     ensures counted { IsCounted (W.failed sink.old) (W.failed sink.new) result }
 {
     if write_answer(problem, answer, sink).is_err() {
@@ -53,11 +51,10 @@ pub fn write_published<W: Sink>(
     sink: &mut W,
 ) -> Result<u8, EngineFault>
     requires order { IfSome published (λ answer. IsWritable problem.now answer.now) }
-    requires failed { W.failed sink.old < 2 ^ 64 - 1 }
     ensures output { IsOutput (published_said problem.now (option_map
         (λ answer. answer.now) published.entry))
         (W.contents sink.old) (W.contents sink.new) result }
-    ensures failed { result ≡ Err EngineFault.Write → W.failed sink.old < W.failed sink.new }
+    ensures failed { result ≡ Err EngineFault.Write → W.failed sink.new ≡ failed_once (W.failed sink.old) }
     ensures counted { IsCounted (W.failed sink.old) (W.failed sink.new) result }
 {
     match published {

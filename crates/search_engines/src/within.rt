@@ -1,8 +1,9 @@
 //! `alone` and `check` within limits of visits and of time.
 
-ghost use Rattle.std.specs.Prelude.{◌≡◌, ◌≢◌, ◌-◌, ◌<◌, ◌≤◌, ◌^◌, ◌⊎◌, Some, false, option_map, IfOk, IfSome};
+ghost use Rattle.std.specs.Prelude.{◌≡◌, ◌≢◌, ◌≤◌, ◌⊎◌, Some, false, option_map, IfOk, IfSome};
 ghost use Rattle.std.specs.Io.KnownBytes.{IsAtEnd};
 ghost use Rattle.std.specs.Option.{ForSome};
+ghost use Rattle.dlx_reader.specs.Devices.{failed_once};
 ghost use Rattle.dlx_reader.specs.Writing.{IsWritable};
 ghost use Rattle.search_engines.specs.Alone.{outcome_said};
 ghost use Rattle.search_engines.specs.Check.{CheckRefuses, IsListedAnswer};
@@ -92,10 +93,9 @@ fn write_given<V: EndWatch, W: Sink, C: Clock>(
     watch: &mut V,
     sink: &mut W,
 ) -> Result<u8, EngineFault>
-    requires { W.failed sink.old < 2 ^ 64 - 1 }
     ensures output { IsOutputOf (AloneSaysWithin limits.now.fuel problem.now)
         (W.contents sink.old) (W.contents sink.new) result }
-    ensures failed { result ≡ Err EngineFault.Write → W.failed sink.old < W.failed sink.new }
+    ensures failed { result ≡ Err EngineFault.Write → W.failed sink.new ≡ failed_once (W.failed sink.old) }
 {
     let mut timed = TimedWatch {
         clock,
@@ -121,10 +121,9 @@ fn write_whole<V: EndWatch, W: Sink, C: Clock>(
 ) -> Result<u8, EngineFault>
     requires fuel { ForSome fuel (λ fuel. 1 ≤ fuel) }
     requires watch { V.may_stop ≡ false }
-    requires failed { W.failed sink.old < 2 ^ 64 - 1 }
     ensures output { IsOutput (outcome_said problem.now (whole_outcome problem.now fuel))
         (W.contents sink.old) (W.contents sink.new) result }
-    ensures failed { result ≡ Err EngineFault.Write → W.failed sink.old < W.failed sink.new }
+    ensures failed { result ≡ Err EngineFault.Write → W.failed sink.new ≡ failed_once (W.failed sink.old) }
 {
     match fuel {
         Some(fuel) => write_alone(alloc, problem, fuel, watch, sink),
@@ -142,10 +141,9 @@ fn write_limited<V: EndWatch, W: Sink, C: Clock>(
     sink: &mut W,
 ) -> Result<u8, EngineFault>
     requires watch { V.may_stop ≡ false }
-    requires failed { W.failed sink.old < 2 ^ 64 - 1 }
     ensures output { IsOutputOf (LimitedSays limits.now.fuel limits.now.time problem.now)
         (W.contents sink.old) (W.contents sink.new) result }
-    ensures failed { result ≡ Err EngineFault.Write → W.failed sink.old < W.failed sink.new }
+    ensures failed { result ≡ Err EngineFault.Write → W.failed sink.new ≡ failed_once (W.failed sink.old) }
 {
     // (two ways: without a limit of time the watch stops nothing, so the contract names the one text that is written)
     match &limits.time {
@@ -169,15 +167,13 @@ pub fn alone_within<R: Source, W: Sink, E: Sink, C: Clock>(
     sink: &mut W,
     log: ProgressLog<'_, E>,
 ) -> Result<AloneEnd, EngineFault>
-    requires source { R.failed source.old < 2 ^ 64 - 1 }
-    requires sink { W.failed sink.old < 2 ^ 64 - 1 }
     ensures ended { IfSome (R.remaining source.old) (λ text.
         IsEnded (LimitedSays limits.now.fuel limits.now.time) refuses_none text
         (W.contents sink.old) (W.contents sink.new) result) }
     ensures read { result ≢ Err EngineFault.Read → result ≢ Err EngineFault.Memory →
         IsAtEnd (R.remaining source.new) }
-    ensures read_fault { result ≡ Err EngineFault.Read → R.failed source.old < R.failed source.new }
-    ensures write_fault { result ≡ Err EngineFault.Write → W.failed sink.old < W.failed sink.new }
+    ensures read_fault { result ≡ Err EngineFault.Read → R.failed source.new ≡ failed_once (R.failed source.old) }
+    ensures write_fault { result ≡ Err EngineFault.Write → W.failed sink.new ≡ failed_once (W.failed sink.old) }
 {
     let read = read_whole(alloc, source)?;
     // (a search without a limit counts down from the greatest number, from which the log takes its visits)
@@ -192,10 +188,9 @@ pub fn alone_within<R: Source, W: Sink, E: Sink, C: Clock>(
 
 /// Writes whether none is right where a search gave this answer, and returns the status.
 fn write_none_given<W: Sink>(given: &Answer, sink: &mut W) -> Result<u8, EngineFault>
-    requires failed { W.failed sink.old < 2 ^ 64 - 1 }
     ensures output { IsOutput (none_by (Some given.now)) (W.contents sink.old)
         (W.contents sink.new) result }
-    ensures failed { result ≡ Err EngineFault.Write → W.failed sink.old < W.failed sink.new }
+    ensures failed { result ≡ Err EngineFault.Write → W.failed sink.new ≡ failed_once (W.failed sink.old) }
 {
     match given {
         Answer::Cover(_) => write_line(b"wrong: a cover exists\n", 1, sink),
@@ -205,10 +200,9 @@ fn write_none_given<W: Sink>(given: &Answer, sink: &mut W) -> Result<u8, EngineF
 
 /// Writes whether none is right where a search gave this answer, or none in its limits, and returns the status.
 fn write_none_by<W: Sink>(given: Option<&Answer>, sink: &mut W) -> Result<u8, EngineFault>
-    requires failed { W.failed sink.old < 2 ^ 64 - 1 }
     ensures output { IsOutput (none_by (option_map (λ answer. answer.now) given.entry))
         (W.contents sink.old) (W.contents sink.new) result }
-    ensures failed { result ≡ Err EngineFault.Write → W.failed sink.old < W.failed sink.new }
+    ensures failed { result ≡ Err EngineFault.Write → W.failed sink.new ≡ failed_once (W.failed sink.old) }
 {
     match given {
         Some(answer) => write_none_given(answer, sink),
@@ -224,10 +218,9 @@ fn write_none_within<W: Sink, C: Clock>(
     limits: &SearchLimits,
     sink: &mut W,
 ) -> Result<u8, EngineFault>
-    requires failed { W.failed sink.old < 2 ^ 64 - 1 }
     ensures output { IsOutputOf (MayCheck problem.now Answer.NoCover limits.now.fuel)
         (W.contents sink.old) (W.contents sink.new) result }
-    ensures failed { result ≡ Err EngineFault.Write → W.failed sink.old < W.failed sink.new }
+    ensures failed { result ≡ Err EngineFault.Write → W.failed sink.new ≡ failed_once (W.failed sink.old) }
 {
     let inner = &mut Unwatched;
     let mut timed = TimedWatch {
@@ -251,10 +244,9 @@ fn write_check_within<W: Sink, C: Clock>(
     sink: &mut W,
 ) -> Result<u8, EngineFault>
     requires options { IsListedAnswer problem.now answer.now }
-    requires failed { W.failed sink.old < 2 ^ 64 - 1 }
     ensures output { IsOutputOf (MayCheck problem.now answer.now limits.now.fuel)
         (W.contents sink.old) (W.contents sink.new) result }
-    ensures failed { result ≡ Err EngineFault.Write → W.failed sink.old < W.failed sink.new }
+    ensures failed { result ≡ Err EngineFault.Write → W.failed sink.new ≡ failed_once (W.failed sink.old) }
 {
     match answer {
         Answer::Cover(options) => write_verdict(alloc, problem, options.as_slice(), sink),
@@ -272,9 +264,6 @@ pub fn check_within<R: Source, S: Source, W: Sink, C: Clock>(
     answer: &mut S,
     sink: &mut W,
 ) -> Result<CheckEnd, EngineFault>
-    requires file { R.failed file.old < 2 ^ 64 - 1 }
-    requires answer { S.failed answer.old < 2 ^ 64 - 1 }
-    requires sink { W.failed sink.old < 2 ^ 64 - 1 }
     ensures ended { IfSome (R.remaining file.old) (λ text. IfSome (S.remaining answer.old) (λ given.
         IsEnded (CheckSaysWithin given limits.now.fuel) (CheckRefuses given) text
         (W.contents sink.old) (W.contents sink.new) result)) }
@@ -283,8 +272,8 @@ pub fn check_within<R: Source, S: Source, W: Sink, C: Clock>(
     ensures answer_read { result ≢ Err EngineFault.Read → result ≢ Err EngineFault.Memory →
         IsAtEnd (S.remaining answer.new) }
     ensures read_fault { result ≡ Err EngineFault.Read →
-        (R.failed file.old < R.failed file.new) ⊎ (S.failed answer.old < S.failed answer.new) }
-    ensures write_fault { result ≡ Err EngineFault.Write → W.failed sink.old < W.failed sink.new }
+        (R.failed file.new ≡ failed_once (R.failed file.old)) ⊎ (S.failed answer.new ≡ failed_once (S.failed answer.old)) }
+    ensures write_fault { result ≡ Err EngineFault.Write → W.failed sink.new ≡ failed_once (W.failed sink.old) }
 {
     let given = read_given(alloc, file, answer)?;
     let problem = &given.read.problem;

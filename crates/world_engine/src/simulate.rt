@@ -1,8 +1,9 @@
 //! `simulate`: a world of sites searches a file's problem, by chance.
 
-ghost use Rattle.std.specs.Prelude.{◌≡◌, ◌≢◌, ◌-◌, ◌<◌, ◌^◌, option_map, IfErr, IfOk, IfSome};
+ghost use Rattle.std.specs.Prelude.{◌≡◌, ◌≢◌, option_map, IfErr, IfOk, IfSome};
 ghost use Rattle.std.specs.Io.KnownBytes.{IsAtEnd};
 ghost use Rattle.cover_world.specs.Courses.{opening_core};
+ghost use Rattle.dlx_reader.specs.Devices.{failed_once};
 ghost use Rattle.dlx_reader.specs.Writing.{IsWritable};
 ghost use Rattle.search_engines.specs.Engines.{IsEnded, refuses_none};
 ghost use Rattle.search_engines.specs.Output.{IsOutputOf};
@@ -81,10 +82,9 @@ fn write_simulation<W: Sink>(
     problem: &Problem,
     sink: &mut W,
 ) -> Result<u8, EngineFault>
-    requires failed { W.failed sink.old < 2 ^ 64 - 1 }
     ensures output { IsOutputOf (SimulateSays settings.now problem.now) (W.contents sink.old)
         (W.contents sink.new) result }
-    ensures failed { result ≡ Err EngineFault.Write → W.failed sink.old < W.failed sink.new }
+    ensures failed { result ≡ Err EngineFault.Write → W.failed sink.new ≡ failed_once (W.failed sink.old) }
 {
     let answer = simulated(alloc, settings, problem)?;
     write_published(problem, answer.as_ref(), sink)
@@ -103,15 +103,13 @@ pub fn simulate_engine<R: Source, W: Sink>(
     source: &mut R,
     sink: &mut W,
 ) -> Result<SimulateEnd, EngineFault>
-    requires source { R.failed source.old < 2 ^ 64 - 1 }
-    requires sink { W.failed sink.old < 2 ^ 64 - 1 }
     ensures ended { IfSome (R.remaining source.old) (λ text.
         IsEnded (SimulateSays settings.now) refuses_none text (W.contents sink.old)
         (W.contents sink.new) result) }
     ensures read { result ≢ Err EngineFault.Read → result ≢ Err EngineFault.Memory →
         IsAtEnd (R.remaining source.new) }
-    ensures read_fault { result ≡ Err EngineFault.Read → R.failed source.old < R.failed source.new }
-    ensures write_fault { result ≡ Err EngineFault.Write → W.failed sink.old < W.failed sink.new }
+    ensures read_fault { result ≡ Err EngineFault.Read → R.failed source.new ≡ failed_once (R.failed source.old) }
+    ensures write_fault { result ≡ Err EngineFault.Write → W.failed sink.new ≡ failed_once (W.failed sink.old) }
 {
     let text = read_all(alloc, source)?;
     let read = problem_of(alloc, &text)?;

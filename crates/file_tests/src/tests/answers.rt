@@ -198,7 +198,7 @@ impl Sink for Narrow {
             self.calls_left -= 1;
             return Ok(1);
         }
-        self.failures += 1;
+        self.failures = self.failures.saturating_add(1);
         Err(DeviceFault)
     }
 }
