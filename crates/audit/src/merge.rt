@@ -1,4 +1,8 @@
 //! A merge of beginnings of books, kept as one cursor for each book: how many of its entries are merged.
+//!
+//! Any book whose next entry may come takes it, without going back: what one book takes never keeps another from taking its entry, so the
+//! order of the books doesn't matter, and where nothing can be taken any more no other merge would have come further. (Packets only ever
+//! become more, as in Lamport's "happened before".)
 
 ghost use Rattle.std.specs.Prelude.{◌≡◌, ◌+◌, ◌<◌, length, replicate, IfNone, IfSome};
 ghost use Rattle.audit.specs.Cursors.{AreOfMerge, HaveBegun, IsStuck, Takes};

@@ -1,4 +1,12 @@
-//! The table.
+//! The table: each key has two slots, next to each other, by the high half of its hash.
+//!
+//! Two slots and a worth that fades are as in the transposition tables of chess programs ("two-tier replacement"), where a deep entry is kept
+//! beside a recent one. A new key always goes in, over the one of lesser worth. Worth is by the visits that a state took, so what was dear to
+//! find stays longest; it fades with each key that is kept beside it, and is as at first once its key is found.
+//!
+//! The part of the slots that is in use doubles as more is kept, since memory that was never touched costs time. Then each key moves to where
+//! it is looked for from then on. Left where they are, half of them would not be found again, and hold their slots: dominoes on 16 by 16 took
+//! some 40 % more visits so.
 
 ghost use Rattle.std.specs.Prelude.{◌≡◌, ℕ, ◌+◌, ◌*◌, ◌<◌, ◌≤◌, List, length, IfOk, IfSome};
 ghost use Rattle.barren_states.specs.States.{bytes_of, Holds, HoldsNoMore, IsKept};

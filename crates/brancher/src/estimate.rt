@@ -1,4 +1,9 @@
 //! Which of the two searches is thought to be the faster one. No clause speaks of it, since both meet the same contract.
+//!
+//! Each is many times as fast as the other on some problems: dancing links where a choice takes few options away, sets of live options where
+//! items are few and each choice bars many. Each option weighs as much as it bars. In a plain average hundreds of easy items hide a hard
+//! core, and a few items to which all dominoes of a board give one colour send the board to sets; with the wrong search both take several
+//! times as long. (`bench/searches.py` has both on each of its problems.)
 
 use cover_problem::Problem;
 use std::alloc::{AllocError, Global};

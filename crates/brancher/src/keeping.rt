@@ -1,4 +1,13 @@
 //! A visit that keeps which states it found barren, and goes past those that it meets again.
+//!
+//! Programs for games call such a table a transposition table, and its entries are nogoods of constraint programming. Below prefixes of one
+//! state the search is the same (`alike_prefixes_are_searched_alike`), so the visits that are kept with a state are those that a search
+//! below would count, and no answer changes.
+//!
+//! A state is found by its whole key, since a hash alone could make one with a cover seem barren. The key is made for each look, from the
+//! marks or planes of items: to keep it up to date at each choice would cost time even where nothing repeats. Where looks don't pay (as
+//! `Trials` finds), a plain loop searches, pauses for the next trial and goes on. It doesn't note how many visits were left at each prefix
+//! on its way, so the states of these aren't kept.
 
 ghost use Rattle.std.specs.Prelude.{◌≡◌, Bool, ◌+◌, ◌<◌, ◌≤◌, ℕ, List, length, false, None, Some, true, IfSome, slice_index};
 ghost use Rattle.cover_problem.specs.Branching.{branch_item};

@@ -1,4 +1,9 @@
 //! What the searches of a problem keep.
+//!
+//! Which states are kept is decided in three places: `Trials` says at which depths the table is asked, `keep` adds a state that took
+//! `LEAST` visits or more, and the table itself, where two slots are full, lets the one of lesser worth go.
+//!
+//! If the room for a table is refused, half of it is tried, and so on down to none: that is no error, since the table only saves time.
 
 ghost use Rattle.std.specs.Prelude.{◌≡◌, ◌-◌, ◌<◌, ◌≤◌, ℕ, List, length, IfOk, IfSome, slice_index, slice_set};
 ghost use Rattle.barren_states.specs.States.{bytes_of, Holds};

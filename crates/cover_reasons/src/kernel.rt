@@ -1,4 +1,9 @@
-//! Vectors of weights under which each option so far weighs 0: elimination, with the vectors as columns.
+//! Vectors of weights under which each option so far weighs 0: the null space of the options as rows of a matrix, by Gaussian elimination
+//! with the vectors as columns.
+//!
+//! One vector that gives all items together a weight other than 0 excludes an exact cover, as an invariant of colouring does for tilings
+//! (the mutilated chessboard, by 1 and -1). Modulo a power of a prime the least multiple that isn't 0 is the pivot, so that nothing is
+//! divided by what has no inverse.
 
 ghost use Rattle.std.specs.Prelude.{◌≡◌, ◌<◌, ◌≤◌};
 

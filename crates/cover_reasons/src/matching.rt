@@ -1,4 +1,6 @@
-//! A largest matching of what primary items need with what they may have.
+//! A largest matching of what primary items need with what they may have, by augmenting paths (Kuhn, "The Hungarian method"; Berge).
+//!
+//! Where no path leads on, the items that were reached violate Hall's condition: they are the reason.
 
 ghost use Rattle.std.specs.Prelude.{◌≡◌};
 

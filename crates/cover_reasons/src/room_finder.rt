@@ -1,4 +1,8 @@
 //! The search for primary items that have too little room.
+//!
+//! Hall's marriage theorem: a matching of what primary items need with what they may have, and where the largest one leaves somebody without,
+//! the items that paths from there reach have too little room together. It is looked for in one kind of items after another (as one
+//! teacher's periods), since a reason in one kind is short, and between the two sides of a board.
 
 ghost use Rattle.std.specs.Prelude.{◌≡◌, true, IfOk, IfSome};
 ghost use Rattle.cover_reasons.specs.Room.{is_too_little};

@@ -1,4 +1,7 @@
-//! The search for weights that exclude an exact cover.
+//! The search for weights that exclude an exact cover, modulo each of some small numbers.
+//!
+//! Fractions aren't tried as weights: in 17 timetables and pigeonholes without a cover they gave no reason where kinds of items
+//! (`room_finder`) gave none, and whole numbers modulo m can be added up by hand.
 
 ghost use Rattle.std.specs.Prelude.{◌≡◌, ◌≤◌, true, IfOk, IfSome};
 ghost use Rattle.cover_reasons.specs.Weights.{excludes};

@@ -1,4 +1,8 @@
 //! The answer to a problem, whatever number of visits it takes: by a short search, by a reason that excludes covers, or by a long search.
+//!
+//! A tenth of a second is searched first, then a reason is looked for, then the search begins again: so short searches don't wait for a
+//! reason, which may take most of a second, and what the short search did is little beside what may follow. If memory for the reason is
+//! refused, the search goes on.
 
 ghost use Rattle.std.specs.Prelude.{◌≡◌, [], true, false, None, IfOk, IfSome, MatchOption};
 ghost use Rattle.cover_problem.specs.Search.{first};

@@ -1,4 +1,5 @@
-//! How much of a search tree lies behind a search.
+//! How much of a search tree lies behind a search, as Knuth's DLX1 reports it: each child counts for an equal part of its parent, and half of
+//! the last chosen option is taken to be done. It is rough where subtrees differ, but needs no second search.
 
 ghost use Rattle.std.specs.Prelude.{◌≡◌, ◌<◌, ◌≤◌, length, false, IfSome};
 ghost use Rattle.cover_problem.specs.Prefix.{is_covered};

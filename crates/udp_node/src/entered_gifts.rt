@@ -1,4 +1,8 @@
 //! What an incarnation of a site has entered, and need not receive again.
+//!
+//! A Give is said again for as long as the job lasts, since the thief's answer is the result. Each repeat would be an entry of the thief's
+//! book and a turn of two threads, and in long runs most packets are such. Of Return, Steal and Hello the answer may have
+//! been lost, and Abort, Refuse and Accept are ignored only until what they speak of comes, so these are heard each time.
 
 use packet_wire::{Body, Packet};
 use spawn_frame::{Attempt, Site};

@@ -1,4 +1,8 @@
 //! What the workers of a node tell each other of the problem.
+//!
+//! Workers of one node share the same part of the tree, so each would meet an equal part as if nobody had searched it. Each worker has its
+//! own table of kept states, since one that all share would need locks, which the search doesn't take; so what is dear enough is said: a
+//! prefix below which there is no cover, if a search of it counts thousands of visits. No packet is sent and no answer depends on it.
 
 ghost use Rattle.std.specs.Prelude.{◌≡◌, None, true};
 ghost use Rattle.cover_problem.specs.Prefix.{is_prefix};

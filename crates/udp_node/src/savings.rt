@@ -1,3 +1,7 @@
+//! Where kept states save so many visits for each that is made, one worker of a node is as fast as several: the others would only find the
+//! same states once more. They come back after thousands of visits that saved less, of however many searches: one long search wouldn't be
+//! seen where jobs are short.
+
 /// Where kept states save so many visits for each that is made, one worker of a node is as fast as several.
 const SOLE: u64 = 1_000;
 

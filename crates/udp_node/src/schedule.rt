@@ -1,3 +1,9 @@
+//! When a site acts although nothing came: greetings, repeats, silence, the end.
+//!
+//! By a clock, not by counting receives, whose length depends on the system's tick and on traffic. What may be lost is repeated 160
+//! milliseconds after something was said, then after twice as long each time (exponential backoff, as in TCP, RFC 6298), up to 5.12 seconds:
+//! what wasn't lost needs it no more.
+
 use site_network::Timing;
 
 /// How many microseconds a millisecond has.
