@@ -96,6 +96,7 @@ impl Outbox {
     }
 
     /// Puts a parcel in, as `put` does; the pass comes back in any case.
+    /// The threads of `solve` keep their passes, and call `put`.
     pub fn push<R: Wait>(
         &self,
         rt: &R,
@@ -125,6 +126,7 @@ impl Outbox {
     }
 
     /// Takes out the first parcel, as `take` does; the drain comes back in any case.
+    /// The thread that sends keeps its drain, and calls `take`.
     pub fn pop<R: Wait>(&self, rt: &R, mut drain: Drain) -> (Drain, Option<Parcel>)
         requires here { drain.outbox ≡ self.now }
         ensures taken { IfSome result.1 (λ parcel. result.0 ≡ has_taken drain parcel) }

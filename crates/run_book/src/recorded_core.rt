@@ -167,6 +167,7 @@ impl<J: Run, C: Core + Drop, N: CellName> RecordedCore<J, C, N> {
     }
 
     /// The book, with all seats and receipts back.
+    /// It is what `SiteCell::close` does, behind its lock.
     pub fn close(
         self,
         site: Site,

@@ -110,6 +110,9 @@ impl<J: Run, C: Core + Drop, N: CellName> SiteCell<J, C, N> {
     }
 
     /// Hands an event to the core, as `act_at` does; the seat comes back in any case.
+    ///
+    /// Who uses a cell as a library hands the seat over, so that nobody uses it twice at once. The threads of `solve` keep theirs, and call
+    /// `act_at`.
     pub fn act<R: Wait>(
         &self,
         rt: &R,
@@ -133,6 +136,8 @@ impl<J: Run, C: Core + Drop, N: CellName> SiteCell<J, C, N> {
     /// The book, once all seats and receipts are back: each receipt stands in it at its place, and no entry is without one.
     ///
     /// Seats are counted before receipts. What is handed in comes back where something is missing. It takes no memory.
+    ///
+    /// This is for who keeps receipts as a whole. The threads of `solve` keep their tokens alone, and a run calls `settle`.
     pub fn close(
         self,
         seats: Vec<Seat<N>>,

@@ -46,6 +46,8 @@ impl Ledger {
     /// Judges a result that a site returns for an own child at an attempt, and lets it enter where it may: the child is
     /// done with it. The answer says what is accepted or why nothing is. The only error is out of memory, which changes
     /// nothing.
+    ///
+    /// It is `judge` and `enter` in one. The cores call these two, and make room for the answer between them.
     pub fn receive_return(
         &mut self,
         from: Site,
