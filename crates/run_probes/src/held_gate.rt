@@ -1,6 +1,6 @@
 //! A gate that holds one worker back until another has posted.
 
-use site_network::Gate;
+use site_limits::Gate;
 use spawn_frame::{Job, Unit};
 use std::sync::atomic::{AtomicBool, AtomicU64, Ordering};
 use std::thread;

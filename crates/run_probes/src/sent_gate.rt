@@ -2,7 +2,7 @@
 
 use crate::recorder::Sent;
 use packet_wire::{Body, Packet};
-use site_network::Gate;
+use site_limits::Gate;
 use spawn_frame::Job;
 use std::sync::Wait;
 use std::thread;

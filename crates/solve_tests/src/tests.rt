@@ -3,7 +3,7 @@
 //! Of the bugs of `cover_engines` that are kept outside the gate, `most_runs_answer` finds `always_no_answer` and
 //! `no_run_above_seven_items`, and `a_restarted_node_has_a_book_of_each_start` finds `restarts_are_not_handed_on`. Of the bugs of
 //! `udp_node` that are kept outside the gate, `a_run_in_which_states_repeat_ends` finds `workers_keep_nothing`. Of the bugs
-//! of `site_network` that are kept outside the gate, `a_run_in_which_states_repeat_ends` finds `a_watched_search_is_stopped`.
+//! of `site_limits` that are kept outside the gate, `a_run_in_which_states_repeat_ends` finds `a_watched_search_is_stopped`.
 
 mod audited;
 mod followed;

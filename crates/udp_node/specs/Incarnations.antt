@@ -1,7 +1,7 @@
 -- Incarnations of a node that restarts: the plan of each, and their books.
 use Rattle.std.specs.Prelude.{ℕ, suc, ◌/◌, ◌==◌, ◌&&◌, nat_le, Bool, if◌then◌else◌, List, [], ◌∷◌}
 use Rattle.run_book.specs.Books.{Book}
-use Rattle.site_network.specs.declared.plan.Plan.{Plan}
+use Rattle.site_limits.specs.declared.plan.Plan.{Plan}
 
 -- the plan of each incarnation of a site that restarts so many times: the turns are shared evenly, rounded down; once the search is over in
 -- one, a later one gives up after a millisecond without a packet

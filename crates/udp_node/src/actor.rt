@@ -9,7 +9,7 @@ use crate::shared::Shared;
 use node_core::{Core, Event, Reply};
 use packet_wire::{Body, Packet, write_packet};
 use run_book::{CellName, Parcel, Pass, Run, Step};
-use site_network::Gate;
+use site_limits::Gate;
 use std::alloc::{AllocError, Global};
 use std::sync::Wait;
 

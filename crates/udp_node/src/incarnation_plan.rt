@@ -1,7 +1,7 @@
 ghost use Rattle.std.specs.Prelude.{◌≡◌};
 ghost use Rattle.udp_node.specs.Incarnations.{incarnation_plan};
 
-use site_network::{Plan, Timing};
+use site_limits::{Plan, Timing};
 
 /// How a site works in one of its incarnations. A node that restarts has several, each with an empty table.
 #[derive(Clone, Copy, Debug, PartialEq, Eq)]

@@ -2,7 +2,7 @@
 
 ghost use Rattle.std.specs.Prelude.{◌≡◌, ◌+◌, ◌<◌, ◌≤◌, ◌⊎◌, IfOk, OnOk, vec_len};
 ghost use Rattle.std.specs.Vec.{vec_capacity};
-ghost use Rattle.site_network.specs.declared.end_cause.EndCause.TheVariants.{Memory};
+ghost use Rattle.site_limits.specs.declared.end_cause.EndCause.TheVariants.{Memory};
 
 use crate::actor::Actor;
 use crate::exchange::Exchange;
@@ -20,7 +20,8 @@ use brancher::Tables;
 use cover_problem::Problem;
 use node_core::Core;
 use run_book::{CellName, Outbox, Run, SiteCell};
-use site_network::{EndCause, Ending, Gate, Limits, Link, Open, Plan, Turn};
+use site_limits::{EndCause, Ending, Gate, Limits, Open, Plan, Turn};
+use site_network::Link;
 use std::alloc::{AllocError, Global};
 use std::sync::Wait;
 use std::thread::{self, Threads};

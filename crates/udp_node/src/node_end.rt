@@ -1,10 +1,10 @@
 ghost use Rattle.std.specs.Prelude.{◌≡◌, ◌+◌, ◌≤◌, sum, sum_by, vec_len, IfErr, IfOk, IfSome};
 ghost use Rattle.std.specs.Vec.{vec_capacity};
-ghost use Rattle.site_network.specs.declared.end_cause.EndCause.TheVariants.{Memory};
+ghost use Rattle.site_limits.specs.declared.end_cause.EndCause.TheVariants.{Memory};
 
 use crate::seat_receipts::SeatReceipts;
 use run_book::{CellName, ReceiptToken, Seat};
-use site_network::EndCause;
+use site_limits::EndCause;
 use std::alloc::Global;
 
 /// How the threads of a site ended. Counts stop at the greatest number.

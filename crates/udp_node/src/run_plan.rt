@@ -1,6 +1,6 @@
 ghost use Rattle.std.specs.Prelude.{◌≡◌};
 
-use site_network::Plan;
+use site_limits::Plan;
 use std::time::Duration;
 
 /// How a run goes.

@@ -4,7 +4,7 @@
 //! milliseconds after something was said, then after twice as long each time (exponential backoff, as in TCP, RFC 6298), up to 5.12 seconds:
 //! what wasn't lost needs it no more.
 
-use site_network::Timing;
+use site_limits::Timing;
 
 /// How many microseconds a millisecond has.
 const MILLI: u64 = 1_000;

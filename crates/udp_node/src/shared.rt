@@ -5,7 +5,7 @@ use crate::signals::Signals;
 use brancher::Tables;
 use node_core::Core;
 use run_book::{CellName, Outbox, Run, SiteCell};
-use site_network::{EndCause, Ending, Gate, Plan};
+use site_limits::{EndCause, Ending, Gate, Plan};
 use std::alloc::Global;
 use std::time::Clock;
 

@@ -1,4 +1,4 @@
-use site_network::Hunger;
+use site_limits::Hunger;
 use std::sync::Wait;
 use std::sync::atomic::{AtomicBool, AtomicU64, Ordering};
 use std::thread::{self, Parker};

@@ -1,5 +1,5 @@
 use brancher::Tables;
-use site_network::{Ending, Gate};
+use site_limits::{Ending, Gate};
 use std::alloc::Global;
 
 /// What the threads of a site are given besides their cell, their link and their plan.

@@ -19,7 +19,7 @@ use node_core::{ActFault, Core, Event, Reply};
 use rand_core::utils::NextWord;
 use rand_pcg::Pcg32;
 use run_book::{BookFault, CellName, Run, Step};
-use site_network::{EndCause, Gate, Pace, Plan, SearchWatch, Turn};
+use site_limits::{EndCause, Gate, Pace, Plan, SearchWatch, Turn};
 use spawn_frame::Job;
 use std::alloc::{AllocError, Global};
 use std::marker::PhantomData;

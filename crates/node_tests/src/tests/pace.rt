@@ -1,6 +1,6 @@
 //! How much a worker searches: a script of what it asks and learns, and when work is short.
 //!
-//! Of the bugs of `site_network` that are kept outside the gate, `hunger` finds `nobody_is_ever_hungry`.
+//! Of the bugs of `site_limits` that are kept outside the gate, `hunger` finds `nobody_is_ever_hungry`.
 //!
 //! Of the bugs of `udp_node` that are kept outside the gate, `who_asks_in_vain` finds `who_asks_in_vain_is_not_heard`.
 

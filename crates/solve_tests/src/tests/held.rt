@@ -1,7 +1,7 @@
 //! Runs whose results a gate holds back, and what it sees of them.
 //!
 //! Of the bugs of `cover_engines` that are kept outside the gate, `a_run_waits_for_a_slow_search` finds `quiet_for_half_a_second` and
-//! `turns_are_cut`, and `a_search_has_the_fuel_of_the_settings` finds `each_job_has_fuel_of_one`. Of the bugs of `site_network` that are
+//! `turns_are_cut`, and `a_search_has_the_fuel_of_the_settings` finds `each_job_has_fuel_of_one`. Of the bugs of `site_limits` that are
 //! kept outside the gate, `a_search_has_the_fuel_of_the_settings` finds `a_quota_stops_nothing`.
 
 ghost use Rattle.std.specs.Prelude.{◌≡◌};

@@ -1,0 +1,23 @@
+//! How long the threads of a site work, and what ends them: how many visits a job may make, how many turns a thread takes, when a site acts
+//! by itself, and why it ends. It needs no core, so that it is proved beside the cores.
+#![tactic(auto)]
+
+mod end_cause;
+mod ending;
+mod gate;
+mod hunger;
+mod pace;
+mod plan;
+mod site_end;
+mod timing;
+mod turn;
+
+pub use end_cause::EndCause;
+pub use ending::Ending;
+pub use gate::{Gate, Open, SearchWatch};
+pub use hunger::Hunger;
+pub use pace::{Pace, Quota};
+pub use plan::Plan;
+pub use site_end::SiteEnd;
+pub use timing::Timing;
+pub use turn::{Limits, Turn};
