@@ -130,7 +130,7 @@ def beside_peers(files: Iterator[str], seconds: int) -> bool:
     print(f"| File | Answer | {' | '.join(PEERS)} |\n" + "|" + "---|" * (len(PEERS) + 2))
     for file in files:
         took: dict[str, float] = {}
-        found = set()
+        found: set[bool] = set()
         for name, ask in PEERS.items():
             began = time.perf_counter()
             answer = ask(file, seconds)
