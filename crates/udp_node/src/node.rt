@@ -20,7 +20,7 @@ use brancher::Tables;
 use cover_problem::Problem;
 use node_core::Core;
 use run_book::{CellName, Outbox, Run, SiteCell};
-use site_limits::{EndCause, Ending, Gate, Limits, Open, Plan, Turn};
+use site_limits::{EndCause, Ending, Gate, Limits, Open, Plan, SiteEnd, Turn};
 use site_network::Link;
 use std::alloc::{AllocError, Global};
 use std::sync::Wait;
@@ -186,9 +186,9 @@ pub fn run_node<
     gate: &G,
 ) -> NodeEnd<N>
     requires { problem.now ≡ J.run.problem }
-    ensures all { (vec_len result.seats ≡ plan.workers + 1) ⊎ (result.cause ≡ Memory) }
+    ensures all { (vec_len result.seats ≡ plan.workers + 1) ⊎ (result.end.cause ≡ Memory) }
     ensures none { (vec_len result.seats ≡ plan.workers + 1)
-        ⊎ ((vec_len result.seats ≡ 0) × (result.turns ≡ 0)) }
+        ⊎ ((vec_len result.seats ≡ 0) × (result.end.turns ≡ 0)) }
 {
     let Ok(tables) = Tables::build(alloc, problem) else {
         return NodeEnd::starved(alloc);
@@ -222,9 +222,9 @@ pub fn run_root<
     plan: Plan,
 ) -> NodeEnd<N>
     requires { problem.now ≡ J.run.problem }
-    ensures all { (vec_len result.seats ≡ 1) ⊎ (result.cause ≡ Memory) }
+    ensures all { (vec_len result.seats ≡ 1) ⊎ (result.end.cause ≡ Memory) }
     ensures none { (vec_len result.seats ≡ 1)
-        ⊎ ((vec_len result.seats ≡ 0) × (result.turns ≡ 0)) }
+        ⊎ ((vec_len result.seats ≡ 0) × (result.end.turns ≡ 0)) }
 {
     let plan = Plan { workers: 0, ..plan };
     let tables = Tables::of_links(problem);
@@ -255,9 +255,9 @@ pub(crate) fn run_threads<
     context: SiteContext<'_, G>,
 ) -> NodeEnd<N>
     requires { context.tables.now ≡ J.run.problem }
-    ensures all { (vec_len result.seats ≡ incarnation_plan.plan.workers + 1) ⊎ (result.cause ≡ Memory) }
+    ensures all { (vec_len result.seats ≡ incarnation_plan.plan.workers + 1) ⊎ (result.end.cause ≡ Memory) }
     ensures none { (vec_len result.seats ≡ incarnation_plan.plan.workers + 1)
-        ⊎ ((vec_len result.seats ≡ 0) × (result.turns ≡ 0)) }
+        ⊎ ((vec_len result.seats ≡ 0) × (result.end.turns ≡ 0)) }
 {
     let IncarnationPlan { plan, is_last } = incarnation_plan;
     let SiteContext {
@@ -428,14 +428,15 @@ fn end_of<J: Run, C: Core + Drop, N: CellName, L: Link, G: Gate>(
         seats,
         workers: _,
     } = crew;
-    let mut end = NodeEnd {
-        seats,
+    let sending = SiteEnd {
         losses: sent.losses,
-        dropped: 0,
         failures: sent.failures,
-        turns: 0,
         is_manned,
-        cause: EndCause::Turns,
+        ..SiteEnd::NONE
+    };
+    let mut end = NodeEnd {
+        end: sending,
+        seats,
     };
     for acting_thread in threads {
         end = with_thread(end, acting_thread);
@@ -462,12 +463,16 @@ fn with_thread<J: Run, C: Core + Drop, N: CellName, L: Link, G: Gate>(
         Task::Receive(receiver) => receiver.counts(),
         Task::Work(_) => (0, 0),
     };
+    let own = SiteEnd {
+        cause,
+        losses: actor.losses,
+        dropped,
+        failures,
+        turns,
+        is_manned: false,
+    };
     let mut end = end;
-    end.losses = end.losses.saturating_add(actor.losses);
-    end.dropped = end.dropped.saturating_add(dropped);
-    end.failures = end.failures.saturating_add(failures);
-    end.turns = end.turns.max(turns);
-    end.cause = end.cause.min(cause);
+    end.end = end.end.with(own);
     end.seats.push_reserved(actor.into_receipts());
     end
 }

@@ -4,43 +4,28 @@ ghost use Rattle.site_limits.specs.declared.end_cause.EndCause.TheVariants.{Memo
 
 use crate::seat_receipts::SeatReceipts;
 use run_book::{CellName, ReceiptToken, Seat};
-use site_limits::EndCause;
+use site_limits::SiteEnd;
 use std::alloc::Global;
 
-/// How the threads of a site ended. Counts stop at the greatest number.
+/// How the threads of a site ended.
 #[derive(Drop)]
 pub struct NodeEnd<N: CellName> {
+    /// Why, and what they counted.
+    pub end: SiteEnd,
     /// The seats of all of them, each with the tokens of as many receipts as it counts.
     pub seats: Vec<SeatReceipts<N>>,
-    /// How many parcels were lost: the outbox was full, or the link didn't send them.
-    pub losses: u64,
-    /// How many datagrams came that are no packets.
-    pub dropped: u64,
-    /// How many calls of the link failed.
-    pub failures: u64,
-    /// How many turns that one of its threads took which took the most.
-    pub turns: u64,
-    /// A thread of each kind has begun while the site was to go on. Else the site took part in no search.
-    pub is_manned: bool,
-    /// Why they ended: the first of all causes in the order of that type.
-    pub cause: EndCause,
 }
 
 impl<N: CellName> NodeEnd<N> {
     /// There was no memory to start a thread.
     pub(crate) fn starved(alloc: Global) -> NodeEnd<N>
-        ensures cause { result.cause ≡ Memory }
+        ensures cause { result.end.cause ≡ Memory }
         ensures seats { vec_len result.seats ≡ 0 }
-        ensures turns { result.turns ≡ 0 }
+        ensures turns { result.end.turns ≡ 0 }
     {
         NodeEnd {
+            end: SiteEnd::STARVED,
             seats: Vec::new(alloc),
-            losses: 0,
-            dropped: 0,
-            failures: 0,
-            turns: 0,
-            is_manned: false,
-            cause: EndCause::Memory,
         }
     }
 

@@ -364,20 +364,13 @@ fn closed<J: Run, C: Core + Drop, N: CellName>(
 ) -> (Option<Book<J>>, SiteEnd)
     ensures { IfSome result.0 (λ book. book.site ≡ N.site) }
 {
-    let mut told = SiteEnd {
-        cause: end.cause,
-        losses: end.losses,
-        dropped: end.dropped,
-        failures: end.failures,
-        turns: end.turns,
-        is_manned: end.is_manned,
-    };
+    let ended = end.end;
     let Ok((seats, tokens)) = end.into_lists(alloc) else {
-        told.cause = EndCause::Memory;
-        return (None, told);
+        let cause = EndCause::Memory;
+        return (None, SiteEnd { cause, ..ended });
     };
     match cell.settle(seats, tokens) {
-        Ok(book) => (Some(book), told),
-        Err(_missing) => (None, told),
+        Ok(book) => (Some(book), ended),
+        Err(_missing) => (None, ended),
     }
 }

@@ -282,7 +282,7 @@ fn play<J: Run + Send + Sync, N: CellName + Send + Sync, R: Threads + Wait + Clo
         most_below: AtomicU64::new(0),
     };
     let end = run_node(rt, alloc, &cell, problem, link, plan, &gate);
-    let (cause, losses) = (end.cause, end.losses);
+    let (cause, losses) = (end.end.cause, end.end.losses);
     let (seats, tokens) = end.into_lists(alloc).ok()?;
     let threads = seats.len();
     let book = cell.settle(seats, tokens).ok()?;
