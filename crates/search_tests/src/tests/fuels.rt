@@ -4,6 +4,7 @@
 use super::search::finds;
 use super::texts::problem_of;
 use brancher::{Outcome, Searcher, Tables};
+use cover_problem::Problem;
 use std::alloc::Global;
 use std::process::Abort;
 
@@ -62,20 +63,57 @@ fn come_to_each<R: Abort>(
     comes_to_each(&mut one, visits, first) && comes_to_each(&mut other, visits, first)
 }
 
+/// Whether a search by links is so.
+fn comes_by_links<R: Abort>(
+    rt: &R,
+    alloc: Global,
+    problem: &Problem,
+    visits: u64,
+    first: &[u16],
+) -> bool {
+    let mut searcher = Searcher::new(alloc, problem).expect(rt, "memory");
+    comes_to_each(&mut searcher, visits, first)
+}
+
+/// Whether two searches over sets of live options are so.
+fn come_over_sets<R: Abort>(
+    rt: &R,
+    alloc: Global,
+    problem: &Problem,
+    visits: u64,
+    first: &[u16],
+) -> bool {
+    let tables = Tables::of_sets(alloc, problem).expect(rt, "memory");
+    come_to_each(rt, alloc, &tables, visits, first)
+}
+
+/// Whether two searches over the tables that suit the problem are so.
+fn come_as_suited<R: Abort>(
+    rt: &R,
+    alloc: Global,
+    problem: &Problem,
+    visits: u64,
+    first: &[u16],
+) -> bool {
+    let tables = Tables::build(alloc, problem).expect(rt, "memory");
+    come_to_each(rt, alloc, &tables, visits, first)
+}
+
 #[test]
 fn each_fuel_comes_to_the_same(rt: HostRuntime) {
+    let alloc = rt.alloc();
     for (text, visits, first) in SEARCHES.iter() {
-        let problem = problem_of(&rt, rt.alloc(), text);
-        let sets = Tables::of_sets(rt.alloc(), &problem).expect(&rt, "memory");
-        let suited = Tables::build(rt.alloc(), &problem).expect(&rt, "memory");
-        let mut links = Searcher::new(rt.alloc(), &problem).expect(&rt, "memory");
-        assert!(rt; comes_to_each(&mut links, *visits, first), "{text}");
+        let problem = problem_of(&rt, alloc, text);
         assert!(rt;
-            come_to_each(&rt, rt.alloc(), &sets, *visits, first),
+            comes_by_links(&rt, alloc, &problem, *visits, first),
             "{text}"
         );
         assert!(rt;
-            come_to_each(&rt, rt.alloc(), &suited, *visits, first),
+            come_over_sets(&rt, alloc, &problem, *visits, first),
+            "{text}"
+        );
+        assert!(rt;
+            come_as_suited(&rt, alloc, &problem, *visits, first),
             "{text}"
         );
     }

@@ -11,6 +11,7 @@ ghost use Rattle.std.specs.Prelude.{◌≤◌, true};
 use super::search::{SEARCHES, takes};
 use super::texts::{LETTERS, problem_of};
 use brancher::{Outcome, ROOM, Searcher, Tables, Unwatched, Watch};
+use cover_problem::Problem;
 use std::alloc::Global;
 use std::process::Abort;
 
@@ -38,6 +39,32 @@ static BARREN: [(&str, u64, [u64; 4]); 3] = [
     (BOARD_OF_8, 959_562, [50_000, 100_000, 1_000_000, 64 << 20]),
 ];
 
+/// Whether the search over these tables that keeps states in so many bytes takes so many visits, and finds this first.
+fn takes_over<R: Abort>(
+    rt: &R,
+    alloc: Global,
+    tables: &Tables<'_>,
+    room: u64,
+    visits: u64,
+    first: &[u16],
+) -> bool {
+    let mut searcher = Searcher::keeping(alloc, tables, room).expect(rt, "memory");
+    takes(&mut searcher, visits, first)
+}
+
+/// Whether the search over sets of live options is so.
+fn takes_over_sets<R: Abort>(
+    rt: &R,
+    alloc: Global,
+    problem: &Problem,
+    room: u64,
+    visits: u64,
+    first: &[u16],
+) -> bool {
+    let tables = Tables::of_sets(alloc, problem).expect(rt, "memory");
+    takes_over(rt, alloc, &tables, room, visits, first)
+}
+
 /// Whether searches that keep states in so many bytes take so many visits, and find this first: by links, and over sets of live options.
 fn take_keeping<R: Abort>(
     rt: &R,
@@ -48,11 +75,9 @@ fn take_keeping<R: Abort>(
     first: &[u16],
 ) -> bool {
     let problem = problem_of(rt, alloc, text);
-    let sets = Tables::of_sets(alloc, &problem).expect(rt, "memory");
     let links = Tables::of_links(&problem);
-    let mut over_sets = Searcher::keeping(alloc, &sets, room).expect(rt, "memory");
-    let mut over_links = Searcher::keeping(alloc, &links, room).expect(rt, "memory");
-    takes(&mut over_sets, visits, first) && takes(&mut over_links, visits, first)
+    takes_over_sets(rt, alloc, &problem, room, visits, first)
+        && takes_over(rt, alloc, &links, room, visits, first)
 }
 
 #[test]
@@ -184,23 +209,39 @@ fn a_stopped_search_tells_what_it_came_to(rt: HostRuntime) {
     }
 }
 
-/// What a searcher says of the empty prefix once it has learned of it from another one: how many visits a search of it takes, as both say,
-/// and how many it made to see that; none where memory ran out, or one of them sees nothing.
-fn learned(alloc: Global, tables: &Tables<'_>) -> Option<(u64, u64, u64)> {
-    let Ok(mut one) = Searcher::keeping(alloc, tables, ROOM) else {
-        return None;
-    };
-    let Ok(mut other) = Searcher::keeping(alloc, tables, ROOM) else {
-        return None;
-    };
-    let count = one.barren_visits(&[], &mut Unwatched)?;
-    other.learn(&[], count);
+/// How many visits a searcher says that a search of the empty prefix takes, stopped after so many visits or not; none where it doesn't see
+/// that there is no cover.
+fn seen<R: Abort>(rt: &R, alloc: Global, tables: &Tables<'_>, visits: Option<u64>) -> Option<u64> {
+    let mut searcher = Searcher::keeping(alloc, tables, ROOM).expect(rt, "memory");
+    match visits {
+        Some(visits) => searcher.barren_visits(&[], &mut Stopping { visits, made: 0 }),
+        None => searcher.barren_visits(&[], &mut Unwatched),
+    }
+}
+
+/// The same of a searcher that has learned that so many visits find no cover, with how many it made to see that.
+fn seen_again<R: Abort>(
+    rt: &R,
+    alloc: Global,
+    tables: &Tables<'_>,
+    count: u64,
+) -> Option<(u64, u64)> {
+    let mut searcher = Searcher::keeping(alloc, tables, ROOM).expect(rt, "memory");
+    searcher.learn(&[], count);
     let mut watch = Stopping {
         visits: 10,
         made: 0,
     };
-    let again = other.barren_visits(&[], &mut watch)?;
-    Some((count, again, watch.made))
+    let again = searcher.barren_visits(&[], &mut watch)?;
+    Some((again, watch.made))
+}
+
+/// What a searcher says of the empty prefix once it has learned of it from another one: how many visits a search of it takes, as both say,
+/// and how many it made to see that; none where one of them sees nothing.
+fn learned<R: Abort>(rt: &R, alloc: Global, tables: &Tables<'_>) -> Option<(u64, u64, u64)> {
+    let count = seen(rt, alloc, tables, None)?;
+    let (again, made) = seen_again(rt, alloc, tables, count)?;
+    Some((count, again, made))
 }
 
 #[test]
@@ -208,24 +249,19 @@ fn what_is_learned_is_not_visited(rt: HostRuntime) {
     for (text, visits, _) in &BARREN {
         let problem = problem_of(&rt, rt.alloc(), text);
         let sets = Tables::of_sets(rt.alloc(), &problem).expect(&rt, "memory");
-        let told = learned(rt.alloc(), &sets);
+        let told = learned(&rt, rt.alloc(), &sets);
         assert_eq!(rt; told, Some((*visits, *visits, 1)), "{visits} visits");
     }
 }
 
+/// A problem with a cover, and one without whose search is stopped after so many visits.
+static UNSEEN: [(&str, Option<u64>); 2] = [(LETTERS, None), (BOARD_OF_6, Some(20))];
+
 #[test]
 fn what_is_not_seen_is_not_said(rt: HostRuntime) {
-    let alloc = rt.alloc();
-    let problem = problem_of(&rt, alloc, LETTERS);
-    let sets = Tables::of_sets(alloc, &problem).expect(&rt, "memory");
-    let mut searcher = Searcher::keeping(alloc, &sets, ROOM).expect(&rt, "memory");
-    assert_eq!(rt; searcher.barren_visits(&[], &mut Unwatched), None);
-    let problem = problem_of(&rt, alloc, BOARD_OF_6);
-    let sets = Tables::of_sets(alloc, &problem).expect(&rt, "memory");
-    let mut searcher = Searcher::keeping(alloc, &sets, ROOM).expect(&rt, "memory");
-    let mut watch = Stopping {
-        visits: 20,
-        made: 0,
-    };
-    assert_eq!(rt; searcher.barren_visits(&[], &mut watch), None);
+    for (text, visits) in &UNSEEN {
+        let problem = problem_of(&rt, rt.alloc(), text);
+        let sets = Tables::of_sets(rt.alloc(), &problem).expect(&rt, "memory");
+        assert_eq!(rt; seen(&rt, rt.alloc(), &sets, *visits), None, "{text}");
+    }
 }

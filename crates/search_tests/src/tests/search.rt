@@ -31,13 +31,47 @@ pub fn takes(searcher: &mut Searcher, visits: u64, first: &[u16]) -> bool {
     finds(searcher, visits, first)
 }
 
+/// Whether the search by links is so.
+fn ends_by_links<R: Abort>(
+    rt: &R,
+    alloc: Global,
+    problem: &Problem,
+    visits: u64,
+    first: &[u16],
+) -> bool {
+    let mut searcher = Searcher::new(alloc, problem).expect(rt, "memory");
+    takes(&mut searcher, visits, first)
+}
+
+/// Whether the search over these tables is so.
+fn ends_over<R: Abort>(
+    rt: &R,
+    alloc: Global,
+    tables: &Tables<'_>,
+    visits: u64,
+    first: &[u16],
+) -> bool {
+    let mut searcher = Searcher::over(alloc, tables).expect(rt, "memory");
+    takes(&mut searcher, visits, first)
+}
+
+/// Whether the search over sets of live options is so.
+fn ends_over_sets<R: Abort>(
+    rt: &R,
+    alloc: Global,
+    problem: &Problem,
+    visits: u64,
+    first: &[u16],
+) -> bool {
+    let tables = Tables::of_sets(alloc, problem).expect(rt, "memory");
+    ends_over(rt, alloc, &tables, visits, first)
+}
+
 /// Whether the search of the empty prefix takes so many visits, and finds this first: by links, and over sets of live options.
 pub fn ends_so<R: Abort>(rt: &R, alloc: Global, text: &str, visits: u64, first: &[u16]) -> bool {
     let problem = problem_of(rt, alloc, text);
-    let tables = Tables::of_sets(alloc, &problem).expect(rt, "memory");
-    let mut links = Searcher::new(alloc, &problem).expect(rt, "memory");
-    let mut rows = Searcher::over(alloc, &tables).expect(rt, "memory");
-    takes(&mut links, visits, first) && takes(&mut rows, visits, first)
+    ends_by_links(rt, alloc, &problem, visits, first)
+        && ends_over_sets(rt, alloc, &problem, visits, first)
 }
 
 /// A problem, the visits of its empty prefix, and what is found first.
