@@ -19,8 +19,7 @@ pub use quiet_run::QuietRun;
 pub use search_engines::{
     AloneEnd, CheckEnd, EngineEnd, EngineFault, LineStyle, Progress, ProgressLog, Remembered,
     SearchLimits, TimeLimit, TreeEstimate, Unanswered, alone_engine, alone_within, check_engine,
-    check_unlimited, check_within, tell, tell_end, tell_end_of, tell_fault, tell_unanswered,
-    tell_unopened,
+    check_within, tell, tell_end, tell_end_of, tell_fault, tell_unanswered, tell_unopened,
 };
 pub use sockets::links;
 pub use solve::{SolveEnd, SolveTask, solve_engine, solve_problem};

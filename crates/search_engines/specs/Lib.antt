@@ -3,4 +3,3 @@ pub mod Check
 pub mod Engines
 pub mod Output
 pub mod Status
-pub mod Within

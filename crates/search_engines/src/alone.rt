@@ -1,22 +1,23 @@
 //! `alone`: one thread searches a file's problem.
 
-ghost use Rattle.std.specs.Prelude.{◌≡◌, ◌≢◌, ◌≤◌, false, IfSome};
+ghost use Rattle.std.specs.Prelude.{◌≡◌, ◌≢◌, ◌≤◌, [], false, IfSome};
 ghost use Rattle.std.specs.Io.KnownBytes.{IsAtEnd};
-ghost use Rattle.brancher.specs.Visit.{outcome_told};
-ghost use Rattle.cover_problem.specs.Search.{Covers};
+ghost use Rattle.cover_problem.specs.Search.{outcome};
 ghost use Rattle.dlx_reader.specs.Devices.{failed_once};
-ghost use Rattle.search_engines.specs.Alone.{AloneSays, alone_said, decided_said, outcome_said};
+ghost use Rattle.search_engines.specs.Alone.{AloneSays, LimitedSays, outcome_said};
 ghost use Rattle.search_engines.specs.Engines.{IsEnded, refuses_none};
-ghost use Rattle.search_engines.specs.Output.{IsOutput};
+ghost use Rattle.search_engines.specs.Output.{IsOutput, IsOutputOf};
 
-use crate::deciding::first_answer;
+use crate::answering::{answer_within, fueled_answer};
 use crate::engine::EngineEnd;
 use crate::fault::EngineFault;
 use crate::input::read_whole;
-use crate::lines::{write_line, write_solution};
-use crate::progress_watch::EndWatch;
-use brancher::{Outcome, ROOM, Searcher, Tables, Unwatched};
-use cover_problem::{Answer, Problem, in_order};
+use crate::lines::write_published;
+use crate::progress_log::ProgressLog;
+use crate::progress_watch::{EndWatch, ProgressWatch};
+use crate::search_limits::SearchLimits;
+use brancher::Unwatched;
+use cover_problem::Problem;
 use dlx_reader::{Sink, Source};
 use std::alloc::Global;
 use std::time::Clock;
@@ -24,86 +25,22 @@ use std::time::Clock;
 /// How a run of `alone` ended: with status 0 for a cover, 1 for none, 4 for no answer within its limits.
 pub type AloneEnd = EngineEnd;
 
-/// Writes the text of the cover that a search found, with its options in the order of the file.
-fn write_found<W: Sink>(
-    alloc: Global,
-    problem: &Problem,
-    chosen: &[u16],
-    sink: &mut W,
-) -> Result<u8, EngineFault>
-    ensures output { IsOutput (outcome_said problem.now (Covers chosen.now)) (W.contents sink.old)
-        (W.contents sink.new) result }
-    ensures failed { result ≡ Err EngineFault.Write → W.failed sink.new ≡ failed_once (W.failed sink.old) }
-{
-    let Ok(options) = in_order(alloc, problem, chosen) else {
-        return Err(EngineFault::Memory);
-    };
-    write_solution(problem, &Answer::Cover(options), sink)
-}
-
-/// Writes the text of a search's outcome, with the cover that it found, and returns the status.
-fn write_outcome<W: Sink>(
-    alloc: Global,
-    problem: &Problem,
-    outcome: Outcome,
-    found: &[u16],
-    sink: &mut W,
-) -> Result<u8, EngineFault>
-    ensures output { IsOutput (outcome_said problem.now (outcome_told outcome found.now))
-        (W.contents sink.old) (W.contents sink.new) result }
-    ensures failed { result ≡ Err EngineFault.Write → W.failed sink.new ≡ failed_once (W.failed sink.old) }
-{
-    match outcome {
-        Outcome::Cover => write_found(alloc, problem, found, sink),
-        Outcome::Barren => write_solution(problem, &Answer::NoCover, sink),
-        Outcome::Spent => write_line(b"no answer\n", 4, sink),
-    }
-}
-
-/// Searches the empty prefix under a watch, with so many visits at most, writes the outcome, and returns the status.
-#[tactic(auto, unfolding(crate::specs::Alone::alone_said))]
-pub(crate) fn write_alone<V: EndWatch, W: Sink>(
+/// Searches with so many visits at most, writes the answer, or that there is none yet, and returns the status.
+fn write_fueled<W: Sink>(
     alloc: Global,
     problem: &Problem,
     fuel: u64,
-    watch: &mut V,
     sink: &mut W,
 ) -> Result<u8, EngineFault>
     requires fuel { 1 ≤ fuel }
-    requires watch { V.may_stop ≡ false }
-    ensures output { IsOutput (alone_said problem.now fuel) (W.contents sink.old)
-        (W.contents sink.new) result }
+    ensures output { IsOutput (outcome_said problem.now (outcome problem.now [] fuel))
+        (W.contents sink.old) (W.contents sink.new) result }
     ensures failed { result ≡ Err EngineFault.Write → W.failed sink.new ≡ failed_once (W.failed sink.old) }
 {
-    let Ok(tables) = Tables::build(alloc, problem) else {
-        return Err(EngineFault::Memory);
-    };
-    let Ok(mut searcher) = Searcher::keeping(alloc, &tables, ROOM) else {
-        return Err(EngineFault::Memory);
-    };
-    let outcome = searcher.search_watched(&[], fuel, watch);
-    watch.end();
-    write_outcome(alloc, problem, outcome, searcher.found(), sink)
-}
-
-/// Finds the first cover under a watch without a limit, writes it, or that there is none, and returns the status.
-pub(crate) fn write_decided<V: EndWatch, W: Sink, C: Clock>(
-    clock: &C,
-    alloc: Global,
-    problem: &Problem,
-    watch: &mut V,
-    sink: &mut W,
-) -> Result<u8, EngineFault>
-    requires watch { V.may_stop ≡ false }
-    ensures output { IsOutput (decided_said problem.now) (W.contents sink.old)
-        (W.contents sink.new) result }
-    ensures failed { result ≡ Err EngineFault.Write → W.failed sink.new ≡ failed_once (W.failed sink.old) }
-{
-    let Ok(answer) = first_answer(clock, alloc, problem, watch) else {
-        return Err(EngineFault::Memory);
-    };
-    watch.end();
-    write_solution(problem, &answer, sink)
+    match fueled_answer(alloc, problem, fuel, &mut Unwatched) {
+        Ok(answer) => write_published(problem, answer.as_ref(), sink),
+        Err(_) => Err(EngineFault::Memory),
+    }
 }
 
 /// Reads a problem to its end, searches it with so many visits at most, and writes its first cover, with the options
@@ -129,9 +66,63 @@ pub fn alone_engine<R: Source, W: Sink>(
     ensures write_fault { result ≡ Err EngineFault.Write → W.failed sink.new ≡ failed_once (W.failed sink.old) }
 {
     let read = read_whole(alloc, source)?;
-    let status = write_alone(alloc, &read.problem, fuel, &mut Unwatched, sink)?;
-    Ok(EngineEnd {
-        status,
-        ignored: read.ignored,
-    })
+    let status = write_fueled(alloc, &read.problem, fuel, sink)?;
+    let ignored = read.ignored;
+    Ok(EngineEnd { status, ignored })
+}
+
+/// Searches under a watch until a limit is met, writes the answer, or that there is none yet, and returns the status.
+#[tactic(auto, using(crate::proofs::Outcomes::says_within, crate::proofs::Outcomes::output_of))]
+fn write_limited<V: EndWatch, W: Sink, C: Clock>(
+    clock: &C,
+    alloc: Global,
+    problem: &Problem,
+    limits: &SearchLimits,
+    watch: &mut V,
+    sink: &mut W,
+) -> Result<u8, EngineFault>
+    requires watch { V.may_stop ≡ false }
+    ensures output { IsOutputOf (LimitedSays limits.now.fuel limits.now.time problem.now)
+        (W.contents sink.old) (W.contents sink.new) result }
+    ensures failed { result ≡ Err EngineFault.Write → W.failed sink.new ≡ failed_once (W.failed sink.old) }
+{
+    let Ok(answer) = answer_within(clock, alloc, problem, limits, watch) else {
+        return Err(EngineFault::Memory);
+    };
+    watch.end();
+    write_published(problem, answer.as_ref(), sink)
+}
+
+/// Does what `alone_engine` does within limits: it writes the first cover, or `none`, or `no answer` once a limit is met, of visits or of
+/// time. Without a limit it decides; where visits have none, it looks for a reason that there is no cover after a tenth of a second,
+/// before it searches on.
+///
+/// Meanwhile it writes to the log how far the search has come, by the visits that it made itself: what lies below a state that it
+/// knows is skipped. The log changes no answer: a fault of its sink is passed over. `Memory` also comes where there is none for the
+/// estimate that a log with lines shows.
+pub fn alone_within<R: Source, W: Sink, E: Sink, C: Clock>(
+    clock: &C,
+    alloc: Global,
+    limits: &SearchLimits,
+    source: &mut R,
+    sink: &mut W,
+    log: ProgressLog<'_, E>,
+) -> Result<AloneEnd, EngineFault>
+    ensures ended { IfSome (R.remaining source.old) (λ text.
+        IsEnded (LimitedSays limits.now.fuel limits.now.time) refuses_none text
+        (W.contents sink.old) (W.contents sink.new) result) }
+    ensures read { result ≢ Err EngineFault.Read → result ≢ Err EngineFault.Memory →
+        IsAtEnd (R.remaining source.new) }
+    ensures read_fault { result ≡ Err EngineFault.Read → R.failed source.new ≡ failed_once (R.failed source.old) }
+    ensures write_fault { result ≡ Err EngineFault.Write → W.failed sink.new ≡ failed_once (W.failed sink.old) }
+{
+    let read = read_whole(alloc, source)?;
+    // (a search without a limit counts down from the greatest number, from which the log takes its visits)
+    let fuel = limits.fuel.unwrap_or(u64::MAX);
+    let Ok(mut watch) = ProgressWatch::new(clock, alloc, &read.problem, fuel, log) else {
+        return Err(EngineFault::Memory);
+    };
+    let status = write_limited(clock, alloc, &read.problem, limits, &mut watch, sink)?;
+    let ignored = read.ignored;
+    Ok(EngineEnd { status, ignored })
 }

@@ -4,9 +4,8 @@ ghost use Rattle.std.specs.Prelude.{◌≡◌, [], true, false, None, IfOk, IfSo
 ghost use Rattle.cover_problem.specs.Search.{first};
 ghost use Rattle.dlx_reader.specs.Devices.{failed_once};
 ghost use Rattle.dlx_reader.specs.Writing.{IsWritable};
-ghost use Rattle.search_engines.specs.Alone.{answer_by, decided_said};
+ghost use Rattle.search_engines.specs.Alone.{AloneSaysWithin, IsGiven, answer_by, outcome_said, whole_outcome};
 ghost use Rattle.search_engines.specs.Output.{IsOutput, IsOutputOf};
-ghost use Rattle.search_engines.specs.Within.{AloneSaysWithin, IsGiven};
 
 use crate::deciding::{RootWatch, ShortWatch, searched};
 use crate::fault::EngineFault;
@@ -145,8 +144,8 @@ pub fn write_certified<V: EndWatch, T: Trace + ReasonListener, W: Sink, C: Clock
     sink: &mut W,
 ) -> Result<u8, EngineFault>
     requires watch { V.may_stop ≡ false }
-    ensures output { IsOutput (decided_said problem.now) (W.contents sink.old)
-        (W.contents sink.new) result }
+    ensures output { IsOutput (outcome_said problem.now (whole_outcome problem.now None))
+        (W.contents sink.old) (W.contents sink.new) result }
     ensures failed { result ≡ Err EngineFault.Write → W.failed sink.new ≡ failed_once (W.failed sink.old) }
 {
     let Ok(answer) = certified_first(clock, alloc, problem, watch, listener) else {

@@ -1,21 +1,21 @@
 //! `check`: tests an answer to a file's problem.
 
-ghost use Rattle.std.specs.Prelude.{◌≡◌, ◌≢◌, ◌<◌, ◌≤◌, ◌⊎◌, ℕ, List, [], length, IfOk, IfSome};
+ghost use Rattle.std.specs.Prelude.{◌≡◌, ◌≢◌, ◌<◌, ◌≤◌, ◌⊎◌, [], length, option_map, Some, IfOk, IfSome};
 ghost use Rattle.std.specs.Io.KnownBytes.{IsAtEnd};
-ghost use Rattle.brancher.specs.Visit.{outcome_told};
-ghost use Rattle.cover_problem.specs.Search.{first, found_outcome, outcome};
+ghost use Rattle.cover_problem.specs.Search.{outcome};
 ghost use Rattle.cover_problem.specs.Verdict.{verdict_of};
 ghost use Rattle.dlx_reader.specs.Devices.{failed_once};
-ghost use Rattle.search_engines.specs.Check.{CheckRefuses, CheckSays, DecidedCheckSays, IsListed, IsListedAnswer, check_said, decided_check_said, item_said, none_said, verdict_said};
+ghost use Rattle.search_engines.specs.Check.{CheckRefuses, CheckSays, CheckSaysWithin, IsListed, IsListedAnswer, MayCheck, NoneSaysWithin, check_said, item_said, none_by, none_said, verdict_said};
 ghost use Rattle.search_engines.specs.Engines.{IsEnded};
-ghost use Rattle.search_engines.specs.Output.{IsOutput};
+ghost use Rattle.search_engines.specs.Output.{IsOutput, IsOutputOf};
 
-use crate::deciding::first_answer;
+use crate::answering::{answer_within, fueled_answer};
 use crate::engine::EngineEnd;
 use crate::fault::EngineFault;
 use crate::input::read_given;
 use crate::lines::write_line;
-use brancher::{Outcome, ROOM, Searcher, Tables, Unwatched};
+use crate::search_limits::SearchLimits;
+use brancher::Unwatched;
 use cover_problem::{Answer, Problem, Verdict, check_cover};
 use dlx_reader::{Sink, Source};
 use std::alloc::{AllocError, Global};
@@ -61,7 +61,7 @@ fn write_wrong<W: Sink>(
 }
 
 /// Tests a list of options, writes the verdict, and returns the status.
-pub(crate) fn write_verdict<W: Sink>(
+fn write_verdict<W: Sink>(
     alloc: Global,
     problem: &Problem,
     options: &[u16],
@@ -85,31 +85,31 @@ pub(crate) fn write_verdict<W: Sink>(
     }
 }
 
-/// Searches the empty prefix with so many visits at most and returns the outcome; the only error is out of memory.
-fn searched(alloc: Global, problem: &Problem, fuel: u64) -> Result<Outcome, AllocError>
-    requires { 1 ≤ fuel }
-    ensures { IfOk result (λ came. (found : List ℕ)
-        × (outcome_told came found ≡ outcome problem.now [] fuel)) }
-{
-    let tables = Tables::build(alloc, problem)?;
-    let mut searcher = Searcher::keeping(alloc, &tables, ROOM)?;
-    Ok(searcher.search(&[], fuel))
-}
-
-/// Writes whether none is right where a search has this outcome, and returns the status.
-fn write_outcome_of_none<W: Sink>(outcome: Outcome, sink: &mut W) -> Result<u8, EngineFault>
-    ensures output { (found : List ℕ) → IsOutput (none_said (outcome_told outcome found))
-        (W.contents sink.old) (W.contents sink.new) result }
+/// Writes whether none is right where a search gave this answer, and returns the status.
+fn write_none_given<W: Sink>(given: &Answer, sink: &mut W) -> Result<u8, EngineFault>
+    ensures output { IsOutput (none_by (Some given.now)) (W.contents sink.old)
+        (W.contents sink.new) result }
     ensures failed { result ≡ Err EngineFault.Write → W.failed sink.new ≡ failed_once (W.failed sink.old) }
 {
-    match outcome {
-        Outcome::Cover => write_line(b"wrong: a cover exists\n", 1, sink),
-        Outcome::Barren => write_line(b"right\n", 0, sink),
-        Outcome::Spent => write_line(b"no answer\n", 4, sink),
+    match given {
+        Answer::Cover(_) => write_line(b"wrong: a cover exists\n", 1, sink),
+        Answer::NoCover => write_line(b"right\n", 0, sink),
     }
 }
 
-/// Searches the empty prefix for a cover, writes whether none is right, and returns the status.
+/// Writes whether none is right where a search gave this answer, or none in its limits, and returns the status.
+fn write_none_by<W: Sink>(given: Option<&Answer>, sink: &mut W) -> Result<u8, EngineFault>
+    ensures output { IsOutput (none_by (option_map (λ answer. answer.now) given.entry))
+        (W.contents sink.old) (W.contents sink.new) result }
+    ensures failed { result ≡ Err EngineFault.Write → W.failed sink.new ≡ failed_once (W.failed sink.old) }
+{
+    match given {
+        Some(answer) => write_none_given(answer, sink),
+        None => write_line(b"no answer\n", 4, sink),
+    }
+}
+
+/// Searches for a cover with so many visits at most, writes whether none is right, and returns the status.
 fn write_none<W: Sink>(
     alloc: Global,
     problem: &Problem,
@@ -117,30 +117,31 @@ fn write_none<W: Sink>(
     sink: &mut W,
 ) -> Result<u8, EngineFault>
     requires fuel { 1 ≤ fuel }
-    ensures output { IsOutput (none_said (outcome problem.now [] fuel)) (W.contents sink.old)
-        (W.contents sink.new) result }
+    ensures output { IsOutput (none_said problem.now (outcome problem.now [] fuel))
+        (W.contents sink.old) (W.contents sink.new) result }
     ensures failed { result ≡ Err EngineFault.Write → W.failed sink.new ≡ failed_once (W.failed sink.old) }
 {
-    match searched(alloc, problem, fuel) {
-        Ok(outcome) => write_outcome_of_none(outcome, sink),
+    match fueled_answer(alloc, problem, fuel, &mut Unwatched) {
+        Ok(given) => write_none_by(given.as_ref(), sink),
         Err(_) => Err(EngineFault::Memory),
     }
 }
 
-/// Decides whether there is a cover, writes whether none is right, and returns the status.
-fn write_none_decided<W: Sink, C: Clock>(
+/// Searches for a cover until a limit is met, writes whether none is right, and returns the status.
+#[tactic(auto, using(crate::proofs::Outcomes::checks_within, crate::proofs::Outcomes::output_of))]
+fn write_none_within<W: Sink, C: Clock>(
     clock: &C,
     alloc: Global,
     problem: &Problem,
+    limits: &SearchLimits,
     sink: &mut W,
 ) -> Result<u8, EngineFault>
-    ensures output { IsOutput (none_said (found_outcome (first problem.now [])))
+    ensures output { IsOutputOf (NoneSaysWithin limits.now.fuel limits.now.time problem.now)
         (W.contents sink.old) (W.contents sink.new) result }
     ensures failed { result ≡ Err EngineFault.Write → W.failed sink.new ≡ failed_once (W.failed sink.old) }
 {
-    match first_answer(clock, alloc, problem, &mut Unwatched) {
-        Ok(Answer::Cover(_)) => write_line(b"wrong: a cover exists\n", 1, sink),
-        Ok(Answer::NoCover) => write_line(b"right\n", 0, sink),
+    match answer_within(clock, alloc, problem, limits, &mut Unwatched) {
+        Ok(given) => write_none_by(given.as_ref(), sink),
         Err(_) => Err(EngineFault::Memory),
     }
 }
@@ -166,23 +167,23 @@ fn write_check<W: Sink>(
     }
 }
 
-/// Tests an answer without a limit, writes whether it is right, and returns the status.
-#[tactic(auto, unfolding(crate::specs::Check::decided_check_said))]
-fn write_check_decided<W: Sink, C: Clock>(
+/// Tests an answer within limits, writes whether it is right, and returns the status.
+fn write_check_within<W: Sink, C: Clock>(
     clock: &C,
     alloc: Global,
     problem: &Problem,
     answer: &Answer,
+    limits: &SearchLimits,
     sink: &mut W,
 ) -> Result<u8, EngineFault>
     requires options { IsListedAnswer problem.now answer.now }
-    ensures output { IsOutput (decided_check_said problem.now answer.now) (W.contents sink.old)
-        (W.contents sink.new) result }
+    ensures output { IsOutputOf (MayCheck problem.now answer.now limits.now.fuel limits.now.time)
+        (W.contents sink.old) (W.contents sink.new) result }
     ensures failed { result ≡ Err EngineFault.Write → W.failed sink.new ≡ failed_once (W.failed sink.old) }
 {
     match answer {
         Answer::Cover(options) => write_verdict(alloc, problem, options.as_slice(), sink),
-        Answer::NoCover => write_none_decided(clock, alloc, problem, sink),
+        Answer::NoCover => write_none_within(clock, alloc, problem, limits, sink),
     }
 }
 
@@ -221,17 +222,19 @@ pub fn check_engine<R: Source, S: Source, W: Sink>(
     Ok(EngineEnd { status, ignored })
 }
 
-/// Does what `check_engine` does without a limit: that there is no cover is decided whatever number of visits it takes.
-pub fn check_unlimited<R: Source, S: Source, W: Sink, C: Clock>(
+/// Does what `check_engine` does within limits: that there is no cover is tested by a search, and `no answer` is written once a limit is
+/// met, of visits or of time. Without a limit it decides.
+pub fn check_within<R: Source, S: Source, W: Sink, C: Clock>(
     clock: &C,
     alloc: Global,
+    limits: &SearchLimits,
     file: &mut R,
     answer: &mut S,
     sink: &mut W,
 ) -> Result<CheckEnd, EngineFault>
     ensures ended { IfSome (R.remaining file.old) (λ text. IfSome (S.remaining answer.old) (λ given.
-        IsEnded (DecidedCheckSays given) (CheckRefuses given) text (W.contents sink.old)
-        (W.contents sink.new) result)) }
+        IsEnded (CheckSaysWithin given limits.now.fuel limits.now.time) (CheckRefuses given) text
+        (W.contents sink.old) (W.contents sink.new) result)) }
     ensures file_read { result ≢ Err EngineFault.Read → result ≢ Err EngineFault.Memory →
         IsAtEnd (R.remaining file.new) }
     ensures answer_read { result ≢ Err EngineFault.Read → result ≢ Err EngineFault.Memory →
@@ -241,7 +244,8 @@ pub fn check_unlimited<R: Source, S: Source, W: Sink, C: Clock>(
     ensures write_fault { result ≡ Err EngineFault.Write → W.failed sink.new ≡ failed_once (W.failed sink.old) }
 {
     let given = read_given(alloc, file, answer)?;
-    let status = write_check_decided(clock, alloc, &given.read.problem, &given.answer, sink)?;
+    let problem = &given.read.problem;
+    let status = write_check_within(clock, alloc, problem, &given.answer, limits, sink)?;
     let ignored = given.read.ignored;
     Ok(EngineEnd { status, ignored })
 }

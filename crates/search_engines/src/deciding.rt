@@ -138,20 +138,3 @@ pub fn answer_until<V: Watch, C: Clock>(
     // (from the start once more: what the short search did is a tenth of a second, little beside what may follow)
     searched(alloc, &tables, watch, &mut Untraced)
 }
-
-/// Returns the answer that `answer_until` gives under a watch that stops nothing, so there is always one.
-pub fn first_answer<V: Watch, C: Clock>(
-    clock: &C,
-    alloc: Global,
-    problem: &Problem,
-    watch: &mut V,
-) -> Result<Answer, AllocError>
-    requires { V.may_stop ≡ false }
-    ensures answer { IfOk result (λ answer. answer ≡ answer_by problem.now (first problem.now [])) }
-    ensures order { IfOk result (IsWritable problem.now) }
-{
-    match answer_until(clock, alloc, problem, watch)? {
-        Some(answer) => Ok(answer),
-        None => unreachable!(),
-    }
-}

@@ -3,6 +3,7 @@
 #![tactic(auto)]
 
 mod alone;
+mod answering;
 mod certifying;
 mod check;
 mod deciding;
@@ -22,14 +23,14 @@ mod telling;
 mod timed_watch;
 mod tree_estimate;
 mod unanswered;
-mod within;
 
-pub use alone::{AloneEnd, alone_engine};
+pub use alone::{AloneEnd, alone_engine, alone_within};
+pub use answering::answer_within;
 pub use certifying::{
     ReasonListener, Unheard, certified_until, write_certified, write_certified_within,
 };
-pub use check::{CheckEnd, check_engine, check_unlimited};
-pub use deciding::{answer_until, first_answer, is_excluded, search_until};
+pub use check::{CheckEnd, check_engine, check_within};
+pub use deciding::{answer_until, is_excluded, search_until};
 pub use engine::EngineEnd;
 pub use fault::EngineFault;
 pub use forecast::Forecast;
@@ -48,4 +49,3 @@ pub use telling::{
 pub use timed_watch::TimedWatch;
 pub use tree_estimate::TreeEstimate;
 pub use unanswered::{Unanswered, tell_unanswered};
-pub use within::{alone_within, check_within};

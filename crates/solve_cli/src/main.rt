@@ -17,7 +17,7 @@ pub use cover_engines::{
 };
 use cover_engines::{
     LineStyle, Loopback, Machine, ProgressLog, Remembered, SearchLimits, TimeLimit, Unanswered,
-    alone_within, check_unlimited, check_within, tell_end_of, tell_unanswered, tell_unopened,
+    alone_within, check_within, tell_end_of, tell_unanswered, tell_unopened,
 };
 use dlx_reader::{CountedReader, CountedWriter, Sink, Source};
 use either::Either;
@@ -209,20 +209,13 @@ fn check_inputs(
     requires answer { answer.old.inner.failures ≡ 0 }
 {
     let mut sink = CountedWriter::new(rt.stdout());
-    let (alloc, fuel) = (rt.alloc(), request.settings.fuel);
+    let alloc = rt.alloc();
     let given = read_all(alloc, answer)?;
     if begins_certificate(&given) {
         return certificate_engine(alloc, file, &given, &mut sink);
     }
     let answer = &mut CountedReader::new(given.as_slice());
-    // (three engines: only one with a limit of time may write no answer at any moment, so the contracts of the others say more)
-    if limits.time.is_some() {
-        check_within(rt, alloc, limits, file, answer, &mut sink)
-    } else if request.unlimited {
-        check_unlimited(rt, alloc, file, answer, &mut sink)
-    } else {
-        check_engine(alloc, fuel, file, answer, &mut sink)
-    }
+    check_within(rt, alloc, limits, file, answer, &mut sink)
 }
 
 /// Runs `why` on a file, and returns the exit status.

@@ -6,9 +6,7 @@ use super::long::names;
 use super::run_output::RunOutput;
 use super::texts::{LETTERS, NO_COVER};
 use dlx_reader::{CountedReader, CountedWriter};
-use search_engines::{
-    LineStyle, ProgressLog, SearchLimits, alone_within, check_unlimited, tell_end,
-};
+use search_engines::{LineStyle, ProgressLog, SearchLimits, alone_within, check_within, tell_end};
 use std::alloc::Global;
 use std::process::Abort;
 use std::time::Clock;
@@ -38,7 +36,8 @@ fn check<C: Clock>(clock: &C, alloc: Global, text: &str, answer: &str) -> RunOut
     let mut file = CountedReader::new(text.as_bytes());
     let mut answer = CountedReader::new(answer.as_bytes());
     let mut sink = CountedWriter::new(&mut out);
-    let ended = check_unlimited(clock, alloc, &mut file, &mut answer, &mut sink);
+    let limits = SearchLimits::new(None, None);
+    let ended = check_within(clock, alloc, &limits, &mut file, &mut answer, &mut sink);
     let status = tell_end(&ended, &mut CountedWriter::new(&mut errors));
     RunOutput {
         out,

@@ -1,4 +1,4 @@
-use Rattle.search_engines.proofs.within.write_none_given.Goals as goal
+use Rattle.search_engines.proofs.check.write_none_given.Goals as goal
 
 pub returns-in-Cover-clause-output : goal.returns-in-Cover-clause-output
 returns-in-Cover-clause-output g c = rw c.in-Cover.is c.write_line.ensures.output

@@ -1,4 +1,0 @@
-use Rattle.search_engines.proofs.check.write_outcome_of_none.Goals as goal
-
-pub returns-in-Cover-clause-output : goal.returns-in-Cover-clause-output
-returns-in-Cover-clause-output g c = λ found. rw c.in-Cover.is c.write_line.ensures.output
