@@ -115,23 +115,7 @@ impl<'a> Searcher<'a> {
         ensures short { result ≡ Outcome.Cover → length self.new.found ≤ MOST_ITEMS }
         ensures barren { result ≡ Outcome.Barren → IsBarren self.old.problem prefix.now }
     {
-        self.search_watched(prefix, fuel, &mut Unwatched)
-    }
-
-    /// Searches as `search` does, with a watch that stops nothing.
-    pub fn search_watched<W: Watch>(&mut self, prefix: &[u16], fuel: u64, watch: &mut W) -> Outcome
-        requires prefix { is_prefix self.old.problem prefix.now ≡ true }
-        requires fuel { 1 ≤ fuel }
-        requires watch { W.may_stop ≡ false }
-        ensures problem { self.new.problem ≡ self.old.problem }
-        ensures outcome { outcome_told result self.new.found
-            ≡ outcome self.old.problem prefix.now fuel }
-        ensures cover { result ≡ Outcome.Cover →
-            IsCoverOver self.old.problem prefix.now self.new.found }
-        ensures short { result ≡ Outcome.Cover → length self.new.found ≤ MOST_ITEMS }
-        ensures barren { result ≡ Outcome.Barren → IsBarren self.old.problem prefix.now }
-    {
-        match self.visit(prefix, fuel, watch) {
+        match self.visit(prefix, fuel, &mut Unwatched) {
             Visit::Found => Outcome::Cover,
             Visit::Barren(_) => Outcome::Barren,
             Visit::Spent => Outcome::Spent,
