@@ -36,6 +36,29 @@ pub fn number_or(inner: &ArgMatches<'_>, id: &str, default: u64) -> Option<u64>
     }
 }
 
+/// Returns the number that an option spells, or its default where the subcommand lacks the option; none where the value is out of this range.
+// (tested here, not by a range of clap's: the proof of a command with one is longer, and Settings asks for the bound anyway)
+fn number_between(
+    inner: &ArgMatches<'_>,
+    id: &str,
+    default: u64,
+    least: u64,
+    most: u64,
+) -> Option<u64>
+    ensures given { IfSome result (SpellsOr default (first_value (found_of inner.now) id.now)) }
+    ensures least { IfSome result (λ n. least ≤ n) }
+    ensures most { IfSome result (λ n. n ≤ most) }
+    ensures none { IfNone result ((n : ℕ) →
+        SpellsOr default (first_value (found_of inner.now) id.now) n → least ≤ n → n ≤ most →
+        n < 2 ^ 64 → ⊥) }
+{
+    let number = number_or(inner, id, default)?;
+    if number < least || number > most {
+        return None;
+    }
+    Some(number)
+}
+
 /// Returns how many nodes there are, from 1 to 16; none where the value is out of this range.
 pub fn nodes(inner: &ArgMatches<'_>) -> Option<u8>
     ensures given { IfSome result (SpellsOr 4 (first_value (found_of inner.now) (codes "nodes"))) }
@@ -45,11 +68,7 @@ pub fn nodes(inner: &ArgMatches<'_>) -> Option<u8>
         SpellsOr 4 (first_value (found_of inner.now) (codes "nodes")) n → 1 ≤ n → n ≤ 16 →
         ⊥) }
 {
-    let nodes = number_or(inner, "nodes", 4)?;
-    // (tested here, not by a range of clap's: the proof of a command with one is longer, and Settings asks for the bound anyway)
-    if nodes == 0 || nodes > MOST_NODES {
-        return None;
-    }
+    let nodes = number_between(inner, "nodes", 4, 1, MOST_NODES)?;
     Some(nodes as u8)
 }
 
@@ -62,10 +81,7 @@ pub fn workers(inner: &ArgMatches<'_>) -> Option<u8>
     ensures none { IfNone result ((n : ℕ) →
         SpellsOr 2 (first_value (found_of inner.now) (codes "workers")) n → 1 ≤ n → n ≤ 8 → ⊥) }
 {
-    let workers = number_or(inner, "workers", 2)?;
-    if workers == 0 || workers > MOST_WORKERS {
-        return None;
-    }
+    let workers = number_between(inner, "workers", 2, 1, MOST_WORKERS)?;
     Some(workers as u8)
 }
 
@@ -77,10 +93,7 @@ pub fn turns(inner: &ArgMatches<'_>) -> Option<u32>
     ensures none { IfNone result ((n : ℕ) →
         SpellsOr 10000 (first_value (found_of inner.now) (codes "turns")) n → n ≤ 10000000 → ⊥) }
 {
-    let turns = number_or(inner, "turns", 10_000)?;
-    if turns > MOST_TURNS {
-        return None;
-    }
+    let turns = number_between(inner, "turns", 10_000, 0, MOST_TURNS)?;
     Some(turns as u32)
 }
 
@@ -93,10 +106,7 @@ pub fn entries(inner: &ArgMatches<'_>) -> Option<u32>
     ensures none { IfNone result ((n : ℕ) →
         SpellsOr 1000000 (first_value (found_of inner.now) (codes "entries")) n → 1 ≤ n → n ≤ 1000000000 → ⊥) }
 {
-    let entries = number_or(inner, "entries", 1_000_000)?;
-    if entries == 0 || entries > MOST_ENTRIES {
-        return None;
-    }
+    let entries = number_between(inner, "entries", 1_000_000, 1, MOST_ENTRIES)?;
     Some(entries as u32)
 }
 
@@ -108,10 +118,7 @@ pub fn restarts(inner: &ArgMatches<'_>) -> Option<u32>
     ensures none { IfNone result ((n : ℕ) →
         SpellsOr 0 (first_value (found_of inner.now) (codes "restarts")) n → n ≤ 100 → ⊥) }
 {
-    let restarts = number_or(inner, "restarts", 0)?;
-    if restarts > MOST_RESTARTS {
-        return None;
-    }
+    let restarts = number_between(inner, "restarts", 0, 0, MOST_RESTARTS)?;
     Some(restarts as u32)
 }
 
@@ -168,11 +175,7 @@ pub fn fuel(inner: &ArgMatches<'_>) -> Option<u64>
         SpellsOr greatest_fuel (first_value (found_of inner.now) (codes "fuel")) n →
         1 ≤ n → n < 2 ^ 64 → ⊥) }
 {
-    let fuel = number_or(inner, "fuel", u64::MAX)?;
-    if fuel == 0 {
-        return None;
-    }
-    Some(fuel)
+    number_between(inner, "fuel", u64::MAX, 1, u64::MAX)
 }
 
 /// Returns what is reported of the first option whose value is no number of its range.
