@@ -1,6 +1,7 @@
 """Problems of exact covering, as items and options of Python, and how the program answers them."""
 from __future__ import annotations
 
+import contextlib
 import math
 import os
 import subprocess
@@ -8,11 +9,13 @@ from collections.abc import Hashable, Iterable, Iterator
 from typing import cast, NamedTuple, Optional, Union
 
 from . import cover_files, cover_reason
+from .all_covers import Covers, Run
 from .cover_files import MAX_COLOURS, MAX_ITEMS, MAX_NAME, MAX_OCCURRENCES, MAX_OPTIONS
 from .errors import (
     ColoredPrimary, NoAnswer, OutOfMemory, ProblemError, ProgramError, RepeatedItem, TimeIsUp, TooLarge, UncleanAudit, UnknownItem, WrongNumber)
 from .fault_words import fault_words
 from .programs import find_program, tied
+from .search_parts import part_text, places_in, Prefix, Tree
 
 # the program takes a limit of at most a million seconds
 MOST_SECONDS = 999_999
@@ -164,11 +167,8 @@ class Problem:
         lines = self._numbered_lines()
         status, answer, why = self._ask(words, lines, seconds)
         found = answer.pop() if audit and answer and answer[-1].startswith("audit ") else ""
-        if (status, answer[:1]) == (0, [f"cover {len(answer) - 1}"]):
-            return chosen_of(answer[1:], lines)
-        if (status, answer) == (1, ["none"]):
-            return None
-        raise failure(status, found.partition(": ")[2] if status == 6 else why)
+        chosen = lines_chosen(status, answer, found.partition(": ")[2] if status == 6 else why)
+        return None if chosen is None else chosen_of(chosen, lines)
 
     def chosen(self, seconds: Optional[float] = None, *, nodes: Optional[int] = None, workers: Optional[int] = None,
                audit: bool = False) -> Optional[list[tuple[Word, ...]]]:
@@ -177,23 +177,15 @@ class Problem:
         return None if places is None else [self[place] for place in places]
 
     def covers(self, seconds: Optional[float] = None) -> Iterator[list[int]]:
-        """Each exact cover once, as the places of its options. Each is found by a search of its own, which may take so many seconds, in a problem
-        that has an item more for each cover before: after some hundred covers that raises `TooLarge`."""
-        found: list[list[int]] = []
-        while True:
-            cover = self._lacking(found).solve(seconds)
-            if cover is None:
-                return
-            found.append([place for place in cover if place < len(self)])
-            yield found[-1]
-
-    def _lacking(self, covers: list[list[int]]) -> Problem:
-        """The problem of the covers that lack an option of each of these: each has an item of its own, covered by barring one of its options."""
-        lacks = [object() for _ in covers]
-        bars = {place: object() for cover in covers for place in cover}
-        used = [[*option, *([Colored(bars[place], "used")] if place in bars else [])] for place, option in enumerate(self)]
-        barred = [[item, Colored(bars[place], "barred")] for item, cover in zip(lacks, covers) for place in cover]
-        return Problem([*self.primary, *lacks], [*self.secondary, *bars.values()], used + barred)
+        """Each exact cover once, as the places of its options. A plain search in Python goes through all of them; where it meets none for a while, the
+        program is asked meanwhile whether there are any in the rest (`all_covers`). `TimeIsUp` where neither a cover nor the end comes in so many
+        seconds."""
+        limit, program = checked_seconds(seconds), find_program()
+        tree = Tree(cover_files.read_problem(self._numbered_text(self._numbered_lines())))
+        kept = [place for place, option in enumerate(self) if self._is_kept(option)]
+        found = Covers(tree, lambda prefix: Asked(program, tree, prefix)).each(limit)
+        with contextlib.closing(found):
+            yield from (sorted(kept[place] for place in cover) for cover in found)
 
     def reason(self, seconds: Optional[float] = None) -> Optional[Reason]:
         """Why there is no cover, if the program finds a reason without a search. None says nothing."""
@@ -234,9 +226,13 @@ class Problem:
             lines.append(" ".join(str(item) if colour is None else f"{item}:{colours.setdefault(colour, len(colours))}" for item, colour in parts))
         return lines
 
+    def _is_kept(self, option: tuple[Word, ...]) -> bool:
+        """Whether an option has a primary item, so that a cover may have it."""
+        return any(self.is_primary(parts_of(word)[0]) for word in option)
+
     def _numbered_text(self, lines: list[str]) -> bytes:
         """The problem as the program gets it. Options without a primary item are left out: no cover has them."""
-        kept = [line for option, line in zip(self._options, lines) if any(self.is_primary(parts_of(word)[0]) for word in option)]
+        kept = [line for option, line in zip(self._options, lines) if self._is_kept(option)]
         words = [word for line in kept for word in line.split()]
         colours = {word.partition(":")[2] for word in words if ":" in word}
         for number, most, what in ((len(self._places), MAX_ITEMS, "items"), (len(kept), MAX_OPTIONS, "options"),
@@ -303,6 +299,28 @@ class Problem:
         cover_files.put_bytes(os.fspath(path), self.text())
 
 
+class Asked:
+    """What the program answers about a prefix of a problem's search tree, while Python goes on."""
+
+    def __init__(self, program: str, tree: Tree, prefix: Prefix) -> None:
+        self.prefix = prefix
+        self.places = {tree.words(place).decode(): place for place in reversed(places_in(prefix.live))}
+        try:
+            self.run = Run([program, "answer", "-"], part_text(tree, prefix, 1, 1))
+        except OSError as why:
+            raise ProgramError(f"the program can't be run: {why}") from None
+
+    def is_answered(self) -> bool:
+        return self.run.is_over()
+
+    def answer(self) -> Optional[frozenset[int]]:
+        lines = lines_chosen(self.run.process.returncode, self.run.output.decode().splitlines(), self.run.errors.decode(errors="replace").strip())
+        return None if lines is None else frozenset([*self.prefix.options, *(self.places[line] for line in lines)])
+
+    def end(self) -> None:
+        self.run.end()
+
+
 def named(name: bytes) -> str:
     """A name of a file as a text, from which the same bytes come again."""
     return name.decode("utf-8", "surrogateescape")
@@ -326,6 +344,15 @@ def name_of_word(word: Word, place: int) -> str:
     item, colour = parts_of(word)
     name = checked_name(item, place)
     return name if colour is None else f"{name}:{checked_name(colour, place)}"
+
+
+def lines_chosen(status: int, answer: list[str], why: str) -> Optional[list[str]]:
+    """The lines of a cover in what the program wrote, or None where it says that there is none; raises what has failed."""
+    if (status, answer[:1]) == (0, [f"cover {len(answer) - 1}"]):
+        return answer[1:]
+    if (status, answer) == (1, ["none"]):
+        return None
+    raise failure(status, why)
 
 
 def chosen_of(answer: list[str], lines: list[str]) -> list[int]:
