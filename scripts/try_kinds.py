@@ -4,8 +4,8 @@
     python3 scripts/try_kinds.py [--program PROGRAM] [--times N]
 
 Of each kind N puzzles are drawn by lot (1 where no number is given). What is drawn is tested by the kind's own rules, which know nothing of items and
-options; whether an answer is the only one is compared with puzzles of which that is known. Reasons are told in the words of the puzzle. Sudokus in
-all spellings are one, and texts that can't be meant are refused. Pages that are made of the commands' help have all their options.
+options; whether an answer is the only one is compared with puzzles of which that is known. Reasons are told in the words of the puzzle, and which
+of its givens may be mistyped. Sudokus in all spellings are one, and texts that can't be meant are refused. Pages that are made of the commands' help have all their options.
 
 It wants the program: (cd crates/solve_cli && rt run -- --version) builds it. The last line is 'N passed, M failed'. The exit status is 0 where all
 passed, 1 where something failed, 2 for a mistake on the command line or where there is no program.
@@ -95,6 +95,46 @@ def reasons(trial: Solving) -> None:
     table = trial.path("few.csv", "lesson,teacher,class,rooms,periods\na,ann,5a,r,1 2\nb,ann,5b,r,1 2\nc,bob,5a,,1 2\nd,bob,5b,,2\ne,cy,5b,r,2 3\n")
     status, lines, errors = trial.run("timetable", table)
     trial.expect(f"a timetable: {status} {lines} {errors}", status in (0, 1))
+
+
+# puzzles in which one thing is mistyped: the words of the command, a text, what is changed in it the first time it comes, and what has to be told
+MISTYPED: tuple[tuple[list[str], str, str, str, str], ...] = (
+    (["sudoku"], "sudoku", "8.", "84", "without the 4 in row 1 column 2"), (["jigsaw"], "jigsaw", "....5849", "7...5849", "without the 7 in row 2 column 1"),
+    (["sudoku", "--hyper"], "hyper", "89..46", "893.46", "without the 3 in row 3 column 4"), (["sudoku"], "clash", "8.", "89", "without the 9 in row 1 column 2"),
+    (["killer"], "killer", "b=13", "b=12", "without the sum 12 of the cage that begins in row 1 column 2"),
+    (["kakuro"], "kakuro", "16\\", "15\\", "without the sum 15 below row 1 column 2"), (["kenken"], "kenken", "f=7+", "f=9+", "without the 9+ of the cage f"),
+    (["dominosa"], "dominosa", "3 4", "2 4", "with a 3 in place of the 2 in row 1 column 1"), (["tents"], "tents", "T. 3", "T. 2", "with 3 in place of the 2 of row 1"),
+    (["tents"], "tents", "\n3 0", "\n4 0", "with 3 in place of the 4 of column 1"), (["tents"], "tents", "TT......", "T.......", "with a tree in row 8 column 2"),
+    (["shikaku"], "shikaku", ". 2", ". 3", "with 2 in place of the 3 in row 1 column 2"),
+    (["futoshiki"], "futoshiki", ". < .", ". > .", "without the sign between row 2 column 3 and row 2 column 4"),
+    (["futoshiki"], "futoshiki", ".   .   .   .   .", "2   .   .   .   .", "without the 2 in row 1 column 1"),
+    (["binairo"], "binairo", ". . . . . . 0", "0 . . . . . 0", "without the 0 in row 1 column 1"), (["binairo"], "binairo", "0 . 0 . 1", "0 0 0 . 1", "without the 0 in row 3 column 2"),
+    (["nonogram"], "nonogram", "3", "2", "without the numbers of row 2"), (["nonogram"], "straight", "1 1", "2", "without the numbers of row 1"),
+    (["coloring", "--colors", "red,green"], "map", "a b", "c b", "without the border of a and c"),
+    (["coloring"], "given", "d=red", "b=red", "without the colour red of b"))
+TEXTS = {"sudoku": "\n".join(UNIQUE[k:k + 9] for k in range(0, 81, 9)), "clash": "\n".join(UNIQUE[k:k + 9] for k in range(0, 81, 9)),
+         "nonogram": "1\n3\n1\n\n1\n3\n1\n", "straight": "1 1\n1\n1 1\n\n1 1\n1\n1 1\n", "map": "a b\nb c\na d\nd c\na c\n", "given": "a=red\nd=red\na b\nb c\nc d\n"}
+
+
+def mistyped(trial: Solving) -> None:
+    """Of a puzzle in which one thing is mistyped it is told which, within some seconds; and how far it came, where the time is over."""
+    for words, name, before, behind, told in MISTYPED:
+        path = os.path.join(TOP, "examples", f"{name}.txt")
+        text = TEXTS[name] if name in TEXTS else open(path, encoding="utf-8").read()
+        status, lines, errors = trial.run(*words, trial.path("mistyped.txt", text.replace(before, behind, 1)), "--seconds", "60")
+        found = [re.fullmatch("There is (?:a|exactly one) solution (.*)[.]", line) for line in lines]
+        trial.expect(f"{words} {told}: {status} {lines} {errors}", status == 1 and before in text and
+                     told in ", or ".join(match[1] for match in found if match).split(", or "))
+    status, lines, _ = trial.run("sudoku", trial.path("wrong.txt", SUDOKU.replace("3 .", "3 1", 1).replace(". . . . 8", "1 . . . 8", 1)), "--seconds", "60")
+    trial.expect(f"more than one is wrong: {lines}", status == 1 and lines[-1] == "More than one of its 32 givens is wrong: no change of one alone helps.")
+    status, lines, _ = trial.run("sudoku", trial.path("wrong.txt", TEXTS["sudoku"].replace("8.", "84", 1)), "--seconds", "60")
+    trial.expect(f"what leaves one solution comes first: {lines}", [line[:30] for line in lines[-2:]] == ["There is exactly one solution ", "With one of 20 other changes t"])
+    status, lines, _ = trial.run("langford", "5")
+    trial.expect(f"nothing is given: {lines}", status == 1 and not any("solution with" in line or "givens" in line for line in lines))
+    slow = trial.path("slow", f"#!/bin/sh\nsleep 0.2\nexec {trial.environment['ZARFEPOCH']} \"$@\"\n")
+    os.chmod(slow, 0o755)
+    status, lines, _ = trial.run("sudoku", trial.path("late.txt", TEXTS["sudoku"].replace("8.", "84", 1)), "--seconds", "1", program=slow)
+    trial.expect(f"the time is over: {lines}", status == 1 and re.fullmatch(r"\([1-9]\d? of 22 givens were looked at, in 1 seconds?\.\)", lines[-1]))
 
 
 def schools(trial: Solving) -> None:
@@ -252,7 +292,7 @@ def main() -> int:
     with tempfile.TemporaryDirectory(prefix="try-kinds-") as folder:
         trial = Solving(given.program, folder)
         all_kinds(trial, given.times)
-        for tests in (only_ones, reasons, schools, written, spellings, number_grids, pages):
+        for tests in (only_ones, reasons, mistyped, schools, written, spellings, number_grids, pages):
             tests(trial)
     return trial.end()
 

@@ -11,8 +11,9 @@ The kinds, and what each reads, are those of examples/generate.py, whose --help 
                                                     plans a school, and writes the plan as a table too; --plan NAME .. draws the plans of these alone
 
 Of each kind but timetables it is said whether the answer is the only one; --one leaves that out. Where there is no answer, it says why, if the
-program finds a reason without a search. With --seconds N each search ends after N seconds; without, the first goes on until it is decided, and
-the one for another answer for 10 seconds. A timetable is looked for by many short searches first, since one in which the first choices are
+program finds a reason without a search, and what may be mistyped: the puzzle is tried without each of its digits, sums or signs, for N seconds in all
+(5 where none are told). With --seconds N each search ends after N seconds; without, the first goes on until it is decided, and the one for another
+answer for 10 seconds. A timetable is looked for by many short searches first, since one in which the first choices are
 wrong seldom ends. --problem FILE keeps the problem that the program gets.
 
 With --json FILE an object with "options", and perhaps "primary", all other items where it isn't there, and "secondary" is read, in whose options a list of
@@ -33,7 +34,7 @@ from collections import Counter
 from typing import Optional
 
 from . import generate
-from .another import beyond, enough, free_name, other_lines
+from .another import free_name, others_of
 from .answers import Answered, answered, planned, TRY_SECONDS
 from .command_words import as_called, parser_of
 from .cover_files import complain, Problem, put, read_audited, read_problem, stop
@@ -41,10 +42,11 @@ from .cover_reason import found_reason
 from .draw import planned as planned_picture, table_of, write_out
 from .errors import NoProgram
 from .impossible import core_of, core_words
+from .mistyped import SECONDS as CHANGE_SECONDS, told_changes
 from .picture_base import Kind
 from .picture_kinds import picture_of
 from .programs import find_program
-from .puzzle_texts import Puzzle
+from .puzzle_texts import Change, PlainlyNone, Puzzle
 from .svg_paper import Paper
 from .timetable_plans import Plan, read_plan
 from .timetables import Timetable
@@ -109,15 +111,11 @@ def asked(program: str, puzzle: Puzzle, given: Namespace) -> Answered:
 def only_words(program: str, problem: Problem, answer: bytes, seconds: Optional[float]) -> str:
     """Whether an answer is the only one, in a sentence."""
     chosen = [problem.options[place].words for _, place in read_audited(answer, problem).chosen]
-    other = free_name(problem, b"other")
-    lines = list(other_lines(problem, [chosen], other))
-    if beyond(lines):
-        lines = list(other_lines(problem, [enough(problem, chosen)], other))
-    too_large = beyond(lines)
+    text, too_large = others_of(problem, [chosen], free_name(problem, b"other"))
     if too_large:
         return f"Whether it is the only solution can't be asked: that problem would have {too_large}."
     limit = seconds or OTHER_SECONDS
-    found = answered(program, b"".join(line + b"\n" for line in lines), limit)
+    found = answered(program, text, limit)
     told = {0: "There is another solution.", 1: "It is the only solution."}
     return told.get(found.status, f"Whether it is the only solution wasn't decided in {limit:g} seconds; --seconds N gives more.")
 
@@ -142,6 +140,13 @@ def tell_none(program: str, text: bytes, problem: Problem) -> None:
         print("\n".join(told_lines(problem, reason.words(problem, in_words(problem)))))
 
 
+def tell_changes(program: str, changes: list[Change], seconds: Optional[float]) -> None:
+    """Says after which small changes of the puzzle there is a solution: one of these may be what is mistyped."""
+    sys.stdout.flush()
+    for line in told_changes(program, changes, seconds or CHANGE_SECONDS):
+        print(line)
+
+
 def solved(program: str, puzzle: Puzzle, given: Namespace) -> int:
     """Answers one problem and draws it; the exit status."""
     text = puzzle.text()
@@ -150,6 +155,7 @@ def solved(program: str, puzzle: Puzzle, given: Namespace) -> int:
     if found.status == 1:
         if not isinstance(puzzle, Timetable):
             tell_none(program, text, problem)
+            tell_changes(program, puzzle.changes, given.seconds)
         return 1
     answer = read_audited(found.text, problem)
     picture = picture_of(problem, [problem.options[place] for _, place in answer.chosen], False)
@@ -191,7 +197,11 @@ def solve_kind(given: Namespace, words: list[str]) -> int:
         program = find_program()
     except NoProgram as why:
         stop(why)
-    found = generate.problems_of(given, words)
+    try:
+        found = generate.problems_of(given, words)
+    except PlainlyNone as why:
+        tell_changes(program, why.changes, given.seconds)
+        raise
     statuses = []
     for number, puzzle in enumerate(found, 1):
         own = in_parts(given, number, len(found))

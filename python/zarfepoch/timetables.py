@@ -383,7 +383,8 @@ class Problem:
         ranked.sort(key=lambda one: one.rank)
         options = [one.option for one in ranked]
         primary, secondary = self.sorted_items(options)
-        return Timetable(primary, secondary, options, self.told(), ranked, {lesson.name: lesson for lesson in self.lessons}, self.school)
+        lessons = {lesson.name: lesson for lesson in self.lessons}
+        return Timetable(primary, secondary, options, self.told(), ranked=ranked, lessons=lessons, school=self.school)
 
     def sorted_items(self, options: list[list[str]]) -> tuple[list[str], list[str]]:
         """The primary items, those that are busy in any case first, since the search takes the first of equals; and the secondary ones."""
