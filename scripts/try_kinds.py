@@ -179,10 +179,10 @@ def written(trial: Solving) -> None:
         ("plain by counting", ["sudoku", "11" + "." * 14], 1),
         ("a folder that isn't there", ["queens", "4", "--out", "nothing/x.svg"], 3))
     # (a program that says so: nobody knows a problem of a kind that takes longer than a second on any machine)
-    late = trial.path("late", "#!/bin/sh\ncat > /dev/null\necho no answer\necho 'ended: the time is over' >&2\nexit 4\n")
+    late = trial.path("late", "#!/bin/sh\ncat > /dev/null\necho no answer\necho 'ended: the time is over: try more --seconds, or solve' >&2\nexit 4\n")
     os.chmod(late, 0o755)
     status, _, errors = trial.run("langford", "4", "--seconds", "1", program=late)
-    trial.expect(f"too little time: {status} {errors}", (status, errors) == (4, "zarfepoch: no answer: ended: the time is over\n"))
+    trial.expect(f"too little time: {status} {errors}", (status, errors) == (4, "zarfepoch: no answer: the time is over: try more --seconds\n"))
     for what, words, wanted in rows:
         status, lines, errors = trial.run(*words)
         trial.expect(f"{what}: {status} {errors}", status == wanted and errors.startswith("zarfepoch: ") | errors.startswith("usage: ") and "Traceback" not in errors)

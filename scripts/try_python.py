@@ -205,6 +205,8 @@ def errors() -> None:
         (zarfepoch.ProblemError, lambda: Problem(["a"], ["x"], [["a", Colored("x", None)]]), 0, "x"),
         (zarfepoch.ProblemError, lambda: Problem([]), None, None), (zarfepoch.ProblemError, lambda: Problem(), None, None),
         (zarfepoch.ColoredPrimary, lambda: Problem(options=[["a"], ["b", Colored("x", 1)]]), 1, "x"),
+        (zarfepoch.ProblemError, lambda: zarfepoch.solve(["ab"]), 0, None), (zarfepoch.ProblemError, lambda: zarfepoch.solve([["a"], {"b": 1}]), 1, None),
+        (zarfepoch.ProblemError, lambda: zarfepoch.chosen({"A": ["a"]}), None, None),
         (zarfepoch.ProblemError, lambda: Problem(["a b"]).text(), None, "a b"),
         (zarfepoch.ProblemError, lambda: Problem(["a"], ["x"], [["a", Colored("x", "1:2")]]).text(), 0, "1:2"),
         (zarfepoch.ProblemError, lambda: Problem([3]).text(), None, 3),

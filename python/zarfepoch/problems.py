@@ -5,7 +5,7 @@ import contextlib
 import math
 import os
 import subprocess
-from collections.abc import Hashable, Iterable, Iterator
+from collections.abc import Hashable, Iterable, Iterator, Mapping
 from typing import cast, NamedTuple, Optional, Union
 
 from . import cover_files, cover_reason
@@ -14,7 +14,7 @@ from .cover_files import MAX_COLOURS, MAX_ITEMS, MAX_NAME, MAX_OCCURRENCES, MAX_
 from .errors import (
     ColoredPrimary, NoAnswer, OutOfMemory, ProblemError, ProgramError, RepeatedItem, TimeIsUp, TooLarge, UncleanAudit, UnknownItem, WrongNumber)
 from .fault_words import fault_words
-from .programs import find_program, tied
+from .programs import find_program, own_words, tied
 from .search_parts import part_text, places_in, Prefix, Tree
 
 # the program takes a limit of at most a million seconds
@@ -96,10 +96,12 @@ class Problem:
     def __init__(self, primary: Optional[Iterable[Hashable]] = None, secondary: Iterable[Hashable] = (),
                  options: Iterable[Iterable[Word]] = ()) -> None:
         self.secondary = tuple(secondary)
+        if isinstance(options, Mapping):
+            raise ProblemError("the options are a dict: a list of options is expected, as list(options.values())")
+        listed = [option_in(option, place) for place, option in enumerate(options)]
         if primary is None:
-            options = [tuple(option) for option in options]
             others = set(self.secondary)
-            primary = dict.fromkeys(item for option in options for item, _ in map(parts_of, option) if item not in others)
+            primary = dict.fromkeys(item for option in listed for item, _ in map(parts_of, option) if item not in others)
         self.primary = tuple(primary)
         self._places: dict[Hashable, int] = {}
         self._options: list[tuple[Word, ...]] = []
@@ -109,8 +111,8 @@ class Problem:
             if item in self._places:
                 raise RepeatedItem(f"{item!r} stands twice among the items", item=item)
             self._places[item] = len(self._places)
-        for option in options:
-            self._add(tuple(option))
+        for option in listed:
+            self._add(option)
 
     def add(self, *words: Union[Word, Iterable[Word]]) -> int:
         """Adds an option, given as its items or as one list of them, and answers its place."""
@@ -321,6 +323,14 @@ class Asked:
         self.run.end()
 
 
+def option_in(option: Iterable[Word], place: int) -> tuple[Word, ...]:
+    """An option of a list; `ProblemError` where it is one text or a dict, of which letters or keys would be the items."""
+    if isinstance(option, (str, bytes, Mapping)):
+        what = "a dict" if isinstance(option, Mapping) else f"the text {option!r}"
+        raise ProblemError(f"option {place} is {what}: a list of items is expected, as [{'item' if isinstance(option, Mapping) else repr(option)}]", option=place)
+    return tuple(option)
+
+
 def named(name: bytes) -> str:
     """A name of a file as a text, from which the same bytes come again."""
     return name.decode("utf-8", "surrogateescape")
@@ -369,4 +379,4 @@ def failure(status: int, why: str) -> Exception:
         return OutOfMemory("the program ran out of memory")
     other = f"the program {find_program()} ended with status {status}" + (", and wrote no answer: is it solve_cli?" if status in (0, 1) else "")
     kind, what = {4: (NoAnswer, "no answer"), 6: (UncleanAudit, "the audit is unclean")}.get(status, (ProgramError, other))
-    return kind(f"{what}: {why}" if why else what, status)
+    return kind(f"{what}: {own_words(why)}" if why else what, status)

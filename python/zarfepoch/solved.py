@@ -45,7 +45,7 @@ from .impossible import core_of, core_words
 from .mistyped import SECONDS as CHANGE_SECONDS, told_changes
 from .picture_base import Kind
 from .picture_kinds import picture_of
-from .programs import find_program
+from .programs import find_program, own_words
 from .puzzle_texts import Change, PlainlyNone, Puzzle
 from .svg_paper import Paper
 from .timetable_plans import Plan, read_plan
@@ -100,7 +100,7 @@ def asked(program: str, puzzle: Puzzle, given: Namespace) -> Answered:
     """The program's answer; ends the command where there is none in time, or the program fails."""
     found = asked_of_school(program, puzzle, given) if isinstance(puzzle, Timetable) else answered(program, puzzle.text(), given.seconds)
     if found.status == 4:
-        stop(f"no answer: {found.why}" if found.why else "no answer", NO_ANSWER)
+        stop(f"no answer: {own_words(found.why)}" if found.why else "no answer", NO_ANSWER)
     if not (found.status == 0 and found.text.startswith(b"cover ") or (found.status, found.text) == (1, b"none\n")):
         stop(f"the program {program} ended with status {found.status}, and wrote no answer" + (f": {found.why}" if found.why else ""), 3)
     if found.why:

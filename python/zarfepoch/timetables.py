@@ -482,5 +482,5 @@ def needed_items(puzzle: Puzzle) -> int:
 def note_size(puzzle: Puzzle) -> None:
     """Tells where a problem is near what the program reads."""
     if needed_items(puzzle) > NEAR * MAX_ITEMS:
-        complain(f"note: this timetable needs {needed_items(puzzle):,} items, and the program reads at most {MAX_ITEMS:,}")
+        complain(f"this timetable fits, with {needed_items(puzzle):,} of at most {MAX_ITEMS:,} items")
 
