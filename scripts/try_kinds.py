@@ -26,7 +26,7 @@ from expected import Trial
 from plan_rules import faults
 from try_generate import PUZZLES
 
-ONLY, OTHER = "It is the only solution.", "There is another solution."
+ONLY, OTHER = "It is the only solution.", "There is another solution; --all draws each."
 UNIQUE = "8..........36......7..9.2...5...7.......457.....1...3...1....68..85...1..9....4.."
 
 
@@ -66,7 +66,7 @@ def only_ones(trial: Solving) -> None:
     """Whether an answer is the only one."""
     grid = trial.path("grid.txt", "..\n#.\n")
     for words, told in ((["sudoku", UNIQUE], ONLY), (["sudoku", "." * 16], OTHER), (["langford", "3"], OTHER), (["queens", "1"], ONLY), (["queens", "6"], OTHER),
-                        (["killer", os.path.join(TOP, "examples", "killer.txt")], ONLY), (["crossword", grid, trial.path("one.txt", "ab bc\n")], ONLY),
+                        (["killer", os.path.join(TOP, "examples", "killer.txt")], ONLY), (["sudoku", os.path.join(TOP, "examples", "sudoku.txt")], ONLY), (["crossword", grid, trial.path("one.txt", "ab bc\n")], ONLY),
                         (["crossword", grid, trial.path("two.txt", "ab bc bd\n")], OTHER),
                         (["nonogram", trial.path("cross.txt", "1\n3\n1\n\n1\n3\n1\n")], ONLY), (["nonogram", trial.path("two-by-two.txt", "1\n1\n\n1\n1\n")], OTHER)):
         status, lines, errors = trial.run(*words)
@@ -135,6 +135,27 @@ def mistyped(trial: Solving) -> None:
     os.chmod(slow, 0o755)
     status, lines, _ = trial.run("sudoku", trial.path("late.txt", TEXTS["sudoku"].replace("8.", "84", 1)), "--seconds", "1", program=slow)
     trial.expect(f"the time is over: {lines}", status == 1 and re.fullmatch(r"\([1-9]\d? of 22 givens were looked at, in 1 seconds?\.\)", lines[-1]))
+
+
+def all_solutions(trial: Solving) -> None:
+    """All solutions of a puzzle, drawn or counted, and the help of the command and of each kind."""
+    for words, count in ((["queens", "6"], 4), (["queens", "8"], 92), (["sudoku", UNIQUE], 1), (["langford", "4"], 2), (["sudoku", "." * 16], 288)):
+        status, lines, errors = trial.run(*words, "--count")
+        told = f"There are {count} solutions." if count > 1 else "There is 1 solution."
+        trial.expect(f"{words} counted: {lines} {errors}", status == 0 and lines == [told])
+    status, lines, errors = trial.run("queens", "6", "--all")
+    drawn = "\n".join(lines[:-1]).strip().split("\n\n")
+    trial.expect(f"all queens: {lines} {errors}", status == 0 and len(set(drawn)) == len(drawn) == 4 and lines[-1] == "There are 4 solutions.")
+    status, lines, _ = trial.run("langford", "5", "--all")
+    trial.expect(f"none of all: {lines}", status == 1 and lines[0] == "There is no solution.")
+    status, lines, _ = trial.run("queens", "20", "--count", "--seconds", "1")
+    trial.expect(f"too many: {lines}", status == 0 and re.fullmatch(r"There are at least [\d,]+ solutions: the time was over before the end.", lines[0]))
+    trial.expect("a picture of all", trial.run("queens", "4", "--all", "--out", trial.path("all.svg"))[0] == 2)
+    told = "\n".join(trial.run("--help")[1])
+    trial.expect("all kinds in the help", all(re.search(rf"\b{kind}\b", told) for kind in ("queens", "kenken", "word-square", "timetable", "cubes")))
+    told = "\n".join(trial.run("timetable", "--help")[1])
+    trial.expect(f"the columns of a timetable: {told}", all(word in told for word in ("a_day", "apart", "holes", "who,periods,away")))
+    trial.expect("what a sudoku reads", "--boxes 4x3" in "\n".join(trial.run("sudoku", "--help")[1]))
 
 
 def schools(trial: Solving) -> None:
@@ -292,7 +313,7 @@ def main() -> int:
     with tempfile.TemporaryDirectory(prefix="try-kinds-") as folder:
         trial = Solving(given.program, folder)
         all_kinds(trial, given.times)
-        for tests in (only_ones, reasons, mistyped, schools, written, spellings, number_grids, pages):
+        for tests in (only_ones, reasons, mistyped, all_solutions, schools, written, spellings, number_grids, pages):
             tests(trial)
     return trial.end()
 

@@ -76,7 +76,7 @@ from collections.abc import Iterable, Iterator, Sequence
 from dataclasses import replace
 from typing import Any, Callable, Optional
 
-from .command_words import parser_of
+from .command_words import as_called, parser_of
 from . import grids
 from . import number_grids
 from . import puzzles
@@ -672,6 +672,19 @@ def command_line() -> argparse.ArgumentParser:
     return parser
 
 
+def kinds_listed() -> str:
+    """The names of all kinds, in a sentence."""
+    return ", ".join(list(KINDS)[:-1]) + f" and {list(KINDS)[-1]}"
+
+
+def help_of(kind: str) -> str:
+    """What the help of all kinds says of one: its own lines, and of a timetable what its columns are."""
+    text = __doc__ or ""
+    found = re.search(rf"^    {kind} .*\n(?: {{35}}.*\n)*", text, re.MULTILINE)
+    columns = re.search(r"^Blanks, commas.*?(?=\n\nFILE may be)", text, re.MULTILINE | re.DOTALL)
+    return (found[0] if found else "") + (f"\n{columns[0]}" if kind == "timetable" and columns else "")
+
+
 def kinds_of(parser: argparse.ArgumentParser) -> list[argparse.ArgumentParser]:
     """Adds the kinds to a command line; the command lines of all kinds."""
     kinds = parser.add_subparsers(dest="kind", metavar="KIND")
@@ -702,6 +715,8 @@ def kinds_of(parser: argparse.ArgumentParser) -> list[argparse.ArgumentParser]:
     crossword.add_argument("file", metavar="WORDS", help="words of any length")
     kinds.choices["squares"].add_argument("file", metavar="FILE", help="a name and four colours a line")
     add_options(kinds.choices)
+    for kind, words in kinds.choices.items():
+        words.description, words.formatter_class = as_called(help_of("word-square" if kind == "words" else kind)), argparse.RawDescriptionHelpFormatter
     return list(dict.fromkeys(kinds.choices.values()))
 
 

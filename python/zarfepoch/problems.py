@@ -96,8 +96,7 @@ class Problem:
     def __init__(self, primary: Optional[Iterable[Hashable]] = None, secondary: Iterable[Hashable] = (),
                  options: Iterable[Iterable[Word]] = ()) -> None:
         self.secondary = tuple(secondary)
-        if isinstance(options, Mapping):
-            raise ProblemError("the options are a dict: a list of options is expected, as list(options.values())")
+        want_list(options)
         listed = [option_in(option, place) for place, option in enumerate(options)]
         if primary is None:
             others = set(self.secondary)
@@ -321,6 +320,12 @@ class Asked:
 
     def end(self) -> None:
         self.run.end()
+
+
+def want_list(options: object) -> None:
+    """Refuses options that are a dict, of which keys would be taken for options."""
+    if isinstance(options, Mapping):
+        raise ProblemError("the options are a dict: a list of options is expected, as list(options.values())")
 
 
 def option_in(option: Iterable[Word], place: int) -> tuple[Word, ...]:
