@@ -34,7 +34,7 @@ import subprocess
 import sys
 import tempfile
 import time
-from collections.abc import Sequence
+from collections.abc import Mapping, Sequence
 from typing import NamedTuple, Optional
 
 from built import SOLVE_CLI, TOP, number_from_one, parser_of, want_command, want_program
@@ -55,6 +55,8 @@ CERTIFYING = (("alone", "--unlimited"), ("learn",))
 SPACES = (12, 16, 24, 32, 48, 64, 96, 128, 256)
 FEW = 25
 ONE, ALL = "refuse_growth", "refuse_from"
+# what is refused where nothing is
+NOTHING: Mapping[str, int] = {}
 
 
 class Ended(NamedTuple):
@@ -81,7 +83,7 @@ class Trial:
             with open(path, "w", encoding="ascii") as file:
                 file.write(text)
 
-    def run(self, words: Sequence[str] = USUAL, mode: str = "solve", file: Optional[str] = None, **refused: int) -> Ended:
+    def run(self, words: Sequence[str] = USUAL, mode: str = "solve", file: Optional[str] = None, refused: Mapping[str, int] = NOTHING) -> Ended:
         """One run with these words and refusals; a run that doesn't end within twice the limit is stopped."""
         given = {name.upper(): str(value) for name, value in refused.items()}
         env = dict(os.environ, LD_PRELOAD=self.library, GROWTHS_FILE=self.count, **given)
@@ -130,7 +132,7 @@ def threads(trial: Trial, numbers: Sequence[int], mode: str = "solve") -> None:
     print(f"| Threads of {mode} | Status | Seconds |")
     print("|---|---|---|")
     for most in numbers:
-        ended = trial.run(mode=mode, most_threads=most)
+        ended = trial.run(mode=mode, refused={"most_threads": most})
         trial.judge(ended, False)
         trial.wrong += mode == "answer" and ended.status == 4
         print(f"| {most} | {ended.status} | {ended.seconds:.2f} |", flush=True)
@@ -144,7 +146,7 @@ def growths(trial: Trial, name: str, words: Sequence[str], what: str, count: int
     ended: list[Ended] = []
     unstarted = 0
     for place in places:
-        ended.append(trial.run(words, mode, **{what: place}))
+        ended.append(trial.run(words, mode, refused={what: place}))
         is_start = what == ONE and ended[-1].status is not None and trial.growths()[1] in starts
         unstarted += is_start
         trial.judge(ended[-1], not is_start)
@@ -161,7 +163,7 @@ def certificates(trial: Trial, mode: str, words: Sequence[str], count: int) -> N
     places = sorted({1 + all_of * place // count for place in range(count)}) if count else list(range(1, all_of + 1))
     counts: collections.Counter[Optional[int]] = collections.Counter()
     for place in places:
-        ended = trial.run(words, mode, trial.barren, **{ONE: place})
+        ended = trial.run(words, mode, trial.barren, {ONE: place})
         trial.judge_certificate(ended)
         counts[ended.status] += 1
     print(f"| {mode} | {all_of} | {len(places)} | {counts[1]} | {counts[3]} | {counts[5]} |", flush=True)

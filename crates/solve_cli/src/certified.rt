@@ -1,5 +1,7 @@
 //! Runs that write a certificate where there is no cover, and test it before they call it right.
 
+ghost use Rattle.std.specs.Prelude.{◌≡◌, false};
+
 use crate::certificate_place::CertificatePlace;
 use crate::{learner_settings, limits_of, line_style, open, unanswered, why_unlearned};
 use certificate_writer::{CaseWriter, CertificateFate, CertifyingWatch, ClauseWriter};
@@ -12,7 +14,8 @@ use learn_engine::{LearnWatch, learn_problem};
 use reason_engine::why_problem;
 use run_settings::{Mode, Request};
 use search_engines::{
-    ProgressWatch, TimedWatch, read_whole, tell_fault_of, write_certified, write_certified_within,
+    EndWatch, ProgressWatch, TimedWatch, read_whole, tell_fault_of, write_certified,
+    write_certified_within,
 };
 use std::fs::File;
 
@@ -129,38 +132,53 @@ fn run_into<E: Sink>(
 }
 
 /// Searches a problem, and writes the answer, and to the file a certificate.
-fn search_into<E: Sink>(
-    rt: &HostRuntime,
+fn search_into<'a, E: Sink>(
+    rt: &'a HostRuntime,
     request: &Request<'_>,
     limits: &SearchLimits,
-    problem: &Problem,
+    problem: &'a Problem,
     file: File,
-    errors: &mut E,
+    errors: &'a mut E,
 ) -> CertifiedEnd {
     let alloc = rt.alloc();
     let Ok(mut writer) = CaseWriter::new(alloc, problem, CountedWriter::new(file)) else {
         return CertifiedEnd::out_of_memory();
     };
     let log = ProgressLog::new(errors, line_style(rt, request.progress));
-    let Ok(mut inner) = ProgressWatch::new(rt, alloc, problem, u64::MAX, log) else {
+    let Ok(mut watch) = ProgressWatch::new(rt, alloc, problem, u64::MAX, log) else {
         return CertifiedEnd::out_of_memory();
     };
-    let mut sink = CountedWriter::new(rt.stdout());
-    // (two ways: without a limit of time the watch stops nothing, so there is always an answer)
-    let status = if limits.time.is_some() {
-        let mut watch = TimedWatch {
-            clock: rt,
-            limits,
-            inner: &mut inner,
-        };
-        write_certified_within(rt, alloc, problem, &mut watch, &mut writer, &mut sink)
-    } else {
-        write_certified(rt, alloc, problem, &mut inner, &mut writer, &mut sink)
-    };
+    let status = write_searched(rt, limits, problem, &mut watch, &mut writer);
     CertifiedEnd {
         status,
         is_whole: writer.end(),
         is_begun: writer.is_begun(),
+    }
+}
+
+/// Searches a problem under a watch until the time is over, if it is limited, writes the answer, and returns the status. The writer hears of each
+/// step.
+fn write_searched<V: EndWatch>(
+    rt: &HostRuntime,
+    limits: &SearchLimits,
+    problem: &Problem,
+    inner: &mut V,
+    writer: &mut CaseWriter<CountedWriter<File>>,
+) -> Result<u8, EngineFault>
+    requires { V.may_stop ≡ false }
+{
+    let alloc = rt.alloc();
+    let mut sink = CountedWriter::new(rt.stdout());
+    // (two ways: without a limit of time the watch stops nothing, so there is always an answer)
+    if limits.time.is_some() {
+        let mut watch = TimedWatch {
+            clock: rt,
+            limits,
+            inner,
+        };
+        write_certified_within(rt, alloc, problem, &mut watch, writer, &mut sink)
+    } else {
+        write_certified(rt, alloc, problem, inner, writer, &mut sink)
     }
 }
 
