@@ -4,8 +4,8 @@
     python3 scripts/try_kinds.py [--program PROGRAM] [--times N]
 
 Of each kind N puzzles are drawn by lot (1 where no number is given). What is drawn is tested by the kind's own rules, which know nothing of items and
-options; whether an answer is the only one is compared with puzzles of which that is known. Reasons are told in the words of the puzzle. Sudokus in
-all spellings are one, and texts that can't be meant are refused. Pages that are made of the commands' help have all their options.
+options; whether an answer is the only one is compared with puzzles of which that is known. Reasons are told in the words of the puzzle, and which
+of its givens may be mistyped. Sudokus in all spellings are one, and texts that can't be meant are refused. Pages that are made of the commands' help have all their options.
 
 It wants the program: (cd crates/solve_cli && rt run -- --version) builds it. The last line is 'N passed, M failed'. The exit status is 0 where all
 passed, 1 where something failed, 2 for a mistake on the command line or where there is no program.
@@ -26,7 +26,7 @@ from expected import Trial
 from plan_rules import faults
 from try_generate import PUZZLES
 
-ONLY, OTHER = "It is the only solution.", "There is another solution."
+ONLY, OTHER = "It is the only solution.", "There is another solution; --all draws each."
 UNIQUE = "8..........36......7..9.2...5...7.......457.....1...3...1....68..85...1..9....4.."
 
 
@@ -66,7 +66,7 @@ def only_ones(trial: Solving) -> None:
     """Whether an answer is the only one."""
     grid = trial.path("grid.txt", "..\n#.\n")
     for words, told in ((["sudoku", UNIQUE], ONLY), (["sudoku", "." * 16], OTHER), (["langford", "3"], OTHER), (["queens", "1"], ONLY), (["queens", "6"], OTHER),
-                        (["killer", os.path.join(TOP, "examples", "killer.txt")], ONLY), (["crossword", grid, trial.path("one.txt", "ab bc\n")], ONLY),
+                        (["killer", os.path.join(TOP, "examples", "killer.txt")], ONLY), (["sudoku", os.path.join(TOP, "examples", "sudoku.txt")], ONLY), (["crossword", grid, trial.path("one.txt", "ab bc\n")], ONLY),
                         (["crossword", grid, trial.path("two.txt", "ab bc bd\n")], OTHER),
                         (["nonogram", trial.path("cross.txt", "1\n3\n1\n\n1\n3\n1\n")], ONLY), (["nonogram", trial.path("two-by-two.txt", "1\n1\n\n1\n1\n")], OTHER)):
         status, lines, errors = trial.run(*words)
@@ -95,6 +95,67 @@ def reasons(trial: Solving) -> None:
     table = trial.path("few.csv", "lesson,teacher,class,rooms,periods\na,ann,5a,r,1 2\nb,ann,5b,r,1 2\nc,bob,5a,,1 2\nd,bob,5b,,2\ne,cy,5b,r,2 3\n")
     status, lines, errors = trial.run("timetable", table)
     trial.expect(f"a timetable: {status} {lines} {errors}", status in (0, 1))
+
+
+# puzzles in which one thing is mistyped: the words of the command, a text, what is changed in it the first time it comes, and what has to be told
+MISTYPED: tuple[tuple[list[str], str, str, str, str], ...] = (
+    (["sudoku"], "sudoku", "8.", "84", "without the 4 in row 1 column 2"), (["jigsaw"], "jigsaw", "....5849", "7...5849", "without the 7 in row 2 column 1"),
+    (["sudoku", "--hyper"], "hyper", "89..46", "893.46", "without the 3 in row 3 column 4"), (["sudoku"], "clash", "8.", "89", "without the 9 in row 1 column 2"),
+    (["killer"], "killer", "b=13", "b=12", "without the sum 12 of the cage that begins in row 1 column 2"),
+    (["kakuro"], "kakuro", "16\\", "15\\", "without the sum 15 below row 1 column 2"), (["kenken"], "kenken", "f=7+", "f=9+", "without the 9+ of the cage f"),
+    (["dominosa"], "dominosa", "3 4", "2 4", "with a 3 in place of the 2 in row 1 column 1"), (["tents"], "tents", "T. 3", "T. 2", "with 3 in place of the 2 of row 1"),
+    (["tents"], "tents", "\n3 0", "\n4 0", "with 3 in place of the 4 of column 1"), (["tents"], "tents", "TT......", "T.......", "with a tree in row 8 column 2"),
+    (["shikaku"], "shikaku", ". 2", ". 3", "with 2 in place of the 3 in row 1 column 2"),
+    (["futoshiki"], "futoshiki", ". < .", ". > .", "without the sign between row 2 column 3 and row 2 column 4"),
+    (["futoshiki"], "futoshiki", ".   .   .   .   .", "2   .   .   .   .", "without the 2 in row 1 column 1"),
+    (["binairo"], "binairo", ". . . . . . 0", "0 . . . . . 0", "without the 0 in row 1 column 1"), (["binairo"], "binairo", "0 . 0 . 1", "0 0 0 . 1", "without the 0 in row 3 column 2"),
+    (["nonogram"], "nonogram", "3", "2", "without the numbers of row 2"), (["nonogram"], "straight", "1 1", "2", "without the numbers of row 1"),
+    (["coloring", "--colors", "red,green"], "map", "a b", "c b", "without the border of a and c"),
+    (["coloring"], "given", "d=red", "b=red", "without the colour red of b"))
+TEXTS = {"sudoku": "\n".join(UNIQUE[k:k + 9] for k in range(0, 81, 9)), "clash": "\n".join(UNIQUE[k:k + 9] for k in range(0, 81, 9)),
+         "nonogram": "1\n3\n1\n\n1\n3\n1\n", "straight": "1 1\n1\n1 1\n\n1 1\n1\n1 1\n", "map": "a b\nb c\na d\nd c\na c\n", "given": "a=red\nd=red\na b\nb c\nc d\n"}
+
+
+def mistyped(trial: Solving) -> None:
+    """Of a puzzle in which one thing is mistyped it is told which, within some seconds; and how far it came, where the time is over."""
+    for words, name, before, behind, told in MISTYPED:
+        path = os.path.join(TOP, "examples", f"{name}.txt")
+        text = TEXTS[name] if name in TEXTS else open(path, encoding="utf-8").read()
+        status, lines, errors = trial.run(*words, trial.path("mistyped.txt", text.replace(before, behind, 1)), "--seconds", "60")
+        found = [re.fullmatch("There is (?:a|exactly one) solution (.*)[.]", line) for line in lines]
+        trial.expect(f"{words} {told}: {status} {lines} {errors}", status == 1 and before in text and
+                     told in ", or ".join(match[1] for match in found if match).split(", or "))
+    status, lines, _ = trial.run("sudoku", trial.path("wrong.txt", SUDOKU.replace("3 .", "3 1", 1).replace(". . . . 8", "1 . . . 8", 1)), "--seconds", "60")
+    trial.expect(f"more than one is wrong: {lines}", status == 1 and lines[-1] == "More than one of its 32 givens is wrong: no change of one alone helps.")
+    status, lines, _ = trial.run("sudoku", trial.path("wrong.txt", TEXTS["sudoku"].replace("8.", "84", 1)), "--seconds", "60")
+    trial.expect(f"what leaves one solution comes first: {lines}", [line[:30] for line in lines[-2:]] == ["There is exactly one solution ", "With one of 20 other changes t"])
+    status, lines, _ = trial.run("langford", "5")
+    trial.expect(f"nothing is given: {lines}", status == 1 and not any("solution with" in line or "givens" in line for line in lines))
+    slow = trial.path("slow", f"#!/bin/sh\nsleep 0.2\nexec {trial.environment['ZARFEPOCH']} \"$@\"\n")
+    os.chmod(slow, 0o755)
+    status, lines, _ = trial.run("sudoku", trial.path("late.txt", TEXTS["sudoku"].replace("8.", "84", 1)), "--seconds", "1", program=slow)
+    trial.expect(f"the time is over: {lines}", status == 1 and re.fullmatch(r"\([1-9]\d? of 22 givens were looked at, in 1 seconds?\.\)", lines[-1]))
+
+
+def all_solutions(trial: Solving) -> None:
+    """All solutions of a puzzle, drawn or counted, and the help of the command and of each kind."""
+    for words, count in ((["queens", "6"], 4), (["queens", "8"], 92), (["sudoku", UNIQUE], 1), (["langford", "4"], 2), (["sudoku", "." * 16], 288)):
+        status, lines, errors = trial.run(*words, "--count")
+        told = f"There are {count} solutions." if count > 1 else "There is 1 solution."
+        trial.expect(f"{words} counted: {lines} {errors}", status == 0 and lines == [told])
+    status, lines, errors = trial.run("queens", "6", "--all")
+    drawn = "\n".join(lines[:-1]).strip().split("\n\n")
+    trial.expect(f"all queens: {lines} {errors}", status == 0 and len(set(drawn)) == len(drawn) == 4 and lines[-1] == "There are 4 solutions.")
+    status, lines, _ = trial.run("langford", "5", "--all")
+    trial.expect(f"none of all: {lines}", status == 1 and lines[0] == "There is no solution.")
+    status, lines, _ = trial.run("queens", "20", "--count", "--seconds", "1")
+    trial.expect(f"too many: {lines}", status == 0 and re.fullmatch(r"There are at least [\d,]+ solutions: the time was over before the end.", lines[0]))
+    trial.expect("a picture of all", trial.run("queens", "4", "--all", "--out", trial.path("all.svg"))[0] == 2)
+    told = "\n".join(trial.run("--help")[1])
+    trial.expect("all kinds in the help", all(re.search(rf"\b{kind}\b", told) for kind in ("queens", "kenken", "word-square", "timetable", "cubes")))
+    told = "\n".join(trial.run("timetable", "--help")[1])
+    trial.expect(f"the columns of a timetable: {told}", all(word in told for word in ("a_day", "apart", "holes", "who,periods,away")))
+    trial.expect("what a sudoku reads", "--boxes 4x3" in "\n".join(trial.run("sudoku", "--help")[1]))
 
 
 def schools(trial: Solving) -> None:
@@ -139,10 +200,10 @@ def written(trial: Solving) -> None:
         ("plain by counting", ["sudoku", "11" + "." * 14], 1),
         ("a folder that isn't there", ["queens", "4", "--out", "nothing/x.svg"], 3))
     # (a program that says so: nobody knows a problem of a kind that takes longer than a second on any machine)
-    late = trial.path("late", "#!/bin/sh\ncat > /dev/null\necho no answer\necho 'ended: the time is over' >&2\nexit 4\n")
+    late = trial.path("late", "#!/bin/sh\ncat > /dev/null\necho no answer\necho 'ended: the time is over: try more --seconds, or solve' >&2\nexit 4\n")
     os.chmod(late, 0o755)
     status, _, errors = trial.run("langford", "4", "--seconds", "1", program=late)
-    trial.expect(f"too little time: {status} {errors}", (status, errors) == (4, "zarfepoch: no answer: ended: the time is over\n"))
+    trial.expect(f"too little time: {status} {errors}", (status, errors) == (4, "zarfepoch: no answer: the time is over: try more --seconds\n"))
     for what, words, wanted in rows:
         status, lines, errors = trial.run(*words)
         trial.expect(f"{what}: {status} {errors}", status == wanted and errors.startswith("zarfepoch: ") | errors.startswith("usage: ") and "Traceback" not in errors)
@@ -252,7 +313,7 @@ def main() -> int:
     with tempfile.TemporaryDirectory(prefix="try-kinds-") as folder:
         trial = Solving(given.program, folder)
         all_kinds(trial, given.times)
-        for tests in (only_ones, reasons, schools, written, spellings, number_grids, pages):
+        for tests in (only_ones, reasons, mistyped, all_solutions, schools, written, spellings, number_grids, pages):
             tests(trial)
     return trial.end()
 

@@ -4,7 +4,7 @@
     python3 scripts/try_python.py [--program PROGRAM]
 
 The examples of the package and those of python/README.md are run as they stand. Of random problems, with items that aren't texts, secondary items
-and colours, each answer is compared with a plain search. Problems are written and read again. Then the package is installed into an environment of
+and colours, each answer and all covers are compared with plain searches. Problems are written and read again. Then the package is installed into an environment of
 its own, without a network and as an archive too, and the examples are run there: from another folder, without HOME, with the program on the path
 alone. A killed Python leaves no file behind, and its program ends with it. A line says how long a call takes, over 200 calls.
 
@@ -25,13 +25,19 @@ import subprocess
 import sys
 import tempfile
 import time
+from collections import Counter
+from collections.abc import Iterator
 from typing import Callable, Optional, TypeVar, Union
 
 from built import SOLVE_CLI, TOP, parser_of, want_program, path_of
 from expected import Trial
-from plain_search import read, search
+from plain_search import clash, Numbered, read, search
 import zarfepoch
 from zarfepoch import Colored, Problem
+from zarfepoch.all_covers import Covers, Question
+from zarfepoch.cover_files import read_problem
+from zarfepoch.problems import Asked
+from zarfepoch.search_parts import Prefix, Tree
 
 README = os.path.join(TOP, "python", "README.md")
 EXAMPLES = os.path.join(TOP, "examples")
@@ -97,6 +103,98 @@ def random_answers() -> None:
         expect(f"a reason of {list(problem)}", reason is None or wanted is None)
 
 
+def plain_covers(primary: int, options: list[Numbered], chosen: list[int], live: list[int]) -> Iterator[frozenset[int]]:
+    """All exact covers that begin so and go on with live options, by the first item that isn't covered."""
+    covered = {item for place in chosen for item in options[place]}
+    item = next((item for item in range(primary) if item not in covered), None)
+    if item is None:
+        yield frozenset(chosen)
+        return
+    for place in live:
+        if item in options[place]:
+            yield from plain_covers(primary, options, [*chosen, place], [other for other in live if not clash(primary, options[place], options[other])])
+
+
+def large_problem(draw: random.Random) -> Problem:
+    """A problem of some more items and options, of which some are equal."""
+    primary, secondary = [f"p{k}" for k in range(draw.randint(5, 8))], [f"s{k}" for k in range(draw.randint(0, 3))]
+    problem = Problem(primary, secondary)
+    for _ in range(draw.randint(12, 24)):
+        words = draw.sample(primary, draw.randint(1, 4))
+        problem.add(*words, *(Colored(item, draw.choice("ab")) if draw.random() < 0.6 else item for item in secondary if draw.random() < 0.4))
+    return problem
+
+
+class Slow(Covers):
+    """The search for all covers that rests at many of its steps, so that the program is asked for most."""
+
+    def __init__(self, tree: Tree, ask: Callable[[Prefix], Question], share: float, draw: random.Random) -> None:
+        super().__init__(tree, ask, 0)
+        self.share, self.draw = share, draw
+
+    def searched(self) -> Optional[frozenset[int]]:
+        return super().searched() if self.draw.random() < self.share else None
+
+
+class Late:
+    """A question that is answered by the covers that are known, after so many looks."""
+
+    def __init__(self, known: set[frozenset[int]], prefix: Prefix, looks: int, draw: random.Random) -> None:
+        below = sorted(sorted(cover) for cover in known if cover.issuperset(prefix.options))
+        self.cover, self.looks = frozenset(draw.choice(below)) if below else None, looks
+
+    def is_answered(self) -> bool:
+        self.looks -= 1
+        return self.looks < 0
+
+    def answer(self) -> Optional[frozenset[int]]:
+        return self.cover
+
+    def end(self) -> None:
+        self.looks = 0
+
+
+def all_by_both() -> None:
+    """All covers, where the search and the program meet anywhere: the program is asked from the first step on, and answers early or late."""
+    questions, counts = 0, Counter[bool]()
+    for seed in range(400):
+        draw = random.Random(seed)
+        problem = large_problem(draw)
+        text = problem._numbered_text(problem._numbered_lines())
+        tree = Tree(read_problem(text))
+        _, primary, options, _ = read(text)
+        known = set(plain_covers(primary, options, [], list(range(len(options)))))
+        counts[bool(known)] += 1
+        asked: list[Prefix] = []
+
+        def ask(prefix: Prefix) -> Late:
+            asked.append(prefix)
+            return Late(known, prefix, draw.choice([0, 0, 1, 3, 9]), draw)
+
+        listed = list(Slow(tree, ask, draw.choice([0.05, 0.3, 1]), draw).each())
+        expect(f"all covers of {list(problem)} by both: {listed}", len(set(listed)) == len(listed) and set(listed) == known)
+        questions += len(asked)
+        if seed < 50:
+            program = os.environ["ZARFEPOCH"]
+            listed = list(Slow(tree, lambda prefix: Asked(program, tree, prefix), 0.001, draw).each())
+            expect(f"all covers of {list(problem)} by the program: {listed}", len(set(listed)) == len(listed) and set(listed) == known)
+    expect(f"enough of each: {questions} {counts}", questions > 1000 and min(counts[True], counts[False]) > 20)
+
+
+def many_covers() -> None:
+    """All covers of problems in which one search for each wouldn't end, the first of them at once; who goes on no further leaves no program behind."""
+    made = subprocess.run([sys.executable, os.path.join(TOP, "examples", "generate.py"), "pentominoes", "3x20"], capture_output=True)
+    begun = time.monotonic()
+    found = [frozenset(cover) for cover in Problem.parse(made.stdout).covers(seconds=120)]
+    expect(f"pentominoes on 3 by 20: {len(found)}", len(found) == len(set(found)) == 8)
+    print(f"all covers of 3 by 20 take {time.monotonic() - begun:.1f} s")
+    queens = subprocess.run([sys.executable, os.path.join(TOP, "examples", "generate.py"), "queens", "9"], capture_output=True)
+    expect("nine queens", len({frozenset(cover) for cover in Problem.parse(queens.stdout).covers()}) == 352)
+    hard = long_search().covers(seconds=3)
+    raised(zarfepoch.TimeIsUp, lambda: next(hard))
+    expect("no program goes on", processes_of(os.getpgid(0), os.path.basename(os.environ["ZARFEPOCH"])) == 0)
+
+
 def errors() -> None:
     """What is raised, with the option and the item."""
     cases: list[tuple[type[zarfepoch.ProblemError], Callable[[], object], Optional[int], object]] = [
@@ -107,6 +205,8 @@ def errors() -> None:
         (zarfepoch.ProblemError, lambda: Problem(["a"], ["x"], [["a", Colored("x", None)]]), 0, "x"),
         (zarfepoch.ProblemError, lambda: Problem([]), None, None), (zarfepoch.ProblemError, lambda: Problem(), None, None),
         (zarfepoch.ColoredPrimary, lambda: Problem(options=[["a"], ["b", Colored("x", 1)]]), 1, "x"),
+        (zarfepoch.ProblemError, lambda: zarfepoch.solve(["ab"]), 0, None), (zarfepoch.ProblemError, lambda: zarfepoch.solve([["a"], {"b": 1}]), 1, None),
+        (zarfepoch.ProblemError, lambda: zarfepoch.chosen({"A": ["a"]}), None, None),
         (zarfepoch.ProblemError, lambda: Problem(["a b"]).text(), None, "a b"),
         (zarfepoch.ProblemError, lambda: Problem(["a"], ["x"], [["a", Colored("x", "1:2")]]).text(), 0, "1:2"),
         (zarfepoch.ProblemError, lambda: Problem([3]).text(), None, 3),
@@ -283,12 +383,13 @@ def killed(folder: str) -> None:
                 os.killpg(run.pid, signal.SIGKILL)
 
 
-def processes_of(group: int) -> int:
-    """How many processes of a group there are."""
+def processes_of(group: int, called: str = "") -> int:
+    """How many processes of a group there are, or those with a name."""
     count = 0
-    for name in filter(str.isdecimal, os.listdir("/proc")):
-        with contextlib.suppress(OSError), open(f"/proc/{name}/stat", encoding="ascii", errors="replace") as file:
-            count += file.read().rpartition(")")[2].split()[2] == str(group)
+    for number in filter(str.isdecimal, os.listdir("/proc")):
+        with contextlib.suppress(OSError), open(f"/proc/{number}/stat", encoding="ascii", errors="replace") as file:
+            name, _, rest = file.read().partition("(")[2].rpartition(")")
+            count += rest.split()[2] == str(group) and called in (name, "")
     return count
 
 
@@ -324,6 +425,8 @@ def main() -> int:
     os.chdir(TOP)
     examples()
     random_answers()
+    all_by_both()
+    many_covers()
     errors()
     words_left_out()
     for trials in (stub_answers, files, installed, killed):

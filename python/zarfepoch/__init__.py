@@ -47,7 +47,7 @@ from typing import Optional, TypeVar
 from .errors import (
     ColoredPrimary, Error, NoAnswer, NoProgram, OutOfMemory, ProblemError, ProgramError, RepeatedItem, TimeIsUp, TooLarge, UncleanAudit, UnknownItem,
     WrongNumber)
-from .problems import Colored, Problem, Reason, Word
+from .problems import Colored, Problem, Reason, want_list, Word
 from .programs import find_program
 
 __version__ = "1.0.0"
@@ -67,6 +67,7 @@ def solve(options: Iterable[Iterable[Word]], primary: Optional[Iterable[Hashable
 def chosen(options: Iterable[Option], primary: Optional[Iterable[Hashable]] = None, secondary: Iterable[Hashable] = (),
            seconds: Optional[float] = None, *, nodes: Optional[int] = None, workers: Optional[int] = None, audit: bool = False) -> Optional[list[Option]]:
     """The options of one exact cover, as they were given and in their order, or None where there is none: `Problem.chosen`."""
+    want_list(options)
     given = list(options)
     places = solve(given, primary, secondary, seconds, nodes=nodes, workers=workers, audit=audit)
     return None if places is None else [given[place] for place in places]

@@ -105,6 +105,14 @@ def enough(problem: Problem, chosen: list[Words]) -> list[Words]:
     return [problem.options[place].words for place in kept]
 
 
+def others_of(problem: Problem, answers: list[list[Words]], other: bytes) -> tuple[bytes, Optional[str]]:
+    """The text of the problem of all other covers than these, and what is too much in it for the program, if anything is."""
+    lines = list(other_lines(problem, answers, other))
+    if beyond(lines):
+        lines = list(other_lines(problem, [enough(problem, chosen) for chosen in answers], other))
+    return b"".join(line + b"\n" for line in lines), beyond(lines)
+
+
 def main() -> int:
     parser = parser_of(__doc__)
     parser.add_argument("file", metavar="FILE", help="the problem's file")
@@ -118,13 +126,10 @@ def main() -> int:
         answers = [chosen_options(problem, path, other) for path in given.answers]
     except Unreadable as why:
         stop(why, 3)
-    lines = list(other_lines(problem, answers, other))
-    if beyond(lines):
-        lines = list(other_lines(problem, [enough(problem, chosen) for chosen in answers], other))
-    too_large = beyond(lines)
+    text, too_large = others_of(problem, answers, other)
     if too_large:
         stop(f"this would have {too_large}", 3)
-    sys.stdout.buffer.write(b"".join(line + b"\n" for line in lines))
+    sys.stdout.buffer.write(text)
     return 0
 
 

@@ -16,7 +16,7 @@ or rooms, or classes, teachers, rooms or all. A week begins with Monday, and a s
 table, a row for each time that a lesson is given, for a spreadsheet and for generate.py timetable --keep; where its OUT is `-`, in place of the text.
 
 Comments of the file that generate.py writes say what items can't: the given digits of a sudoku, its regions and the marks for its digits
-(`| given: 4.3. ..`, `| regions: 1122 ..`, `| digits: 0123..`), the grid of a crossword (`| grid: ..#.. ..`), the size of a kakuro, the
+(`| given: 4.3. ..`, `| regions: aabb ..`, `| digits: 0123..`), the grid of a crossword (`| grid: ..#.. ..`), the size of a kakuro, the
 shapes of pieces that have no item (`| piece L: xxx/x..`), who is a teacher, a class or a room (`| teachers: ann bob`), the order of
 periods, who takes part in a lesson without an item (`| also maths: hall`), the lesson that another follows (`| follows lab: chemistry`), their lengths
 and titles, and the names that numbers mean (`| name 7: Mathematics for beginners`). Where a comment contradicts the items it is passed over.

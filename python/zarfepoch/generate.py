@@ -76,7 +76,7 @@ from collections.abc import Iterable, Iterator, Sequence
 from dataclasses import replace
 from typing import Any, Callable, Optional
 
-from .command_words import parser_of
+from .command_words import as_called, parser_of
 from . import grids
 from . import number_grids
 from . import puzzles
@@ -197,7 +197,7 @@ FROM_TEXTS = {
     **{f"{kind}.dlx": [kind, f"{kind}.txt"] for kind in ("dominosa", "tents", "shikaku", "futoshiki", "kenken", "binairo")},
 }
 # the blocks of nine rows and of ten columns
-NONOGRAM = ([[1], [2], [3, 1], [4, 2], [5, 3], [1], [10], [8], [6]],
+NONOGRAM: tuple[list[puzzles.Blocks], list[puzzles.Blocks]] = ([[1], [2], [3, 1], [4, 2], [5, 3], [1], [10], [8], [6]],
             [[1, 1], [2, 2], [3, 3], [4, 3], [9], [3], [3, 3], [2, 3], [1, 2], [1]])
 # the colours of front, right, back, left, top and bottom
 CUBES = ["one blue green red white blue green", "two blue red white white green green", "three green white red red blue red",
@@ -255,29 +255,6 @@ def langford(name: str, note: str, n: int) -> None:
 
 def sudoku(name: str, note: str, rows: list[str]) -> None:
     put_down(note, sudokus.Sudoku([[int(mark) if mark != "." else 0 for mark in row] for row in rows]).puzzle(), name)
-
-
-def numbered(places: list[str], colors: list[str]) -> dict[str, str]:
-    """Numbers for the places whose names would make those of borders too long."""
-    most = (MAX_NAME - 2 - max(len(os.fsencode(color)) for color in colors)) // 2
-    long = [place for place in places if len(os.fsencode(place)) > most]
-    free = (str(number) for number in itertools.count(1) if str(number) not in places)
-    return dict(zip(long, free))
-
-
-def coloring(name: str, note: str, borders: list[Pair], colors: list[str], given: Optional[dict[str, str]] = None) -> None:
-    """Each place has a colour, one that is given or any; a border has each colour on one side at most."""
-    numbers = numbered(sorted({place for border in borders for place in border}), colors)
-    borders = [(numbers.get(one, one), numbers.get(other, other)) for one, other in borders]
-    places = sorted({place for border in borders for place in border})
-    edges = ["-".join(sorted(border)) for border in borders]
-    options = []
-    known = {numbers.get(place, place): color for place, color in (given or {}).items()}
-    for place in places:
-        for color in [known[place]] if place in known else colors:
-            options.append([place] + [f"{edge}={color}" for edge in edges if place in edge.split("-")])
-    told = [f"name {number}: {place}" for place, number in numbers.items()]
-    write(name, note, places, [f"{edge}={color}" for edge in edges for color in colors], options, told)
 
 
 def triples(name: str, note: str, n: int) -> None:
@@ -473,13 +450,14 @@ def crossword(given: Namespace, note: str) -> None:
     want_words(given.file, words)
     want_one_case(given.file, words)
     want_letters(given.file, words)
+    changes = puzzles.without_letter(rows, list(words), given.repeat)
     try:
         problem = puzzles.crossword(rows, list(words), given.repeat)
     except puzzles.NoSolution as why:
-        no_cover(f"{given.grid}, line {numbers[why.row]}: {why}")
+        no_cover(f"{given.grid}, line {numbers[why.row]}: {why}", changes)
     except puzzles.Refused as why:
         stop(str(why), UNREADABLE)
-    write("-", note, *problem, [f"grid: {' '.join(rows)}"])
+    put_down(note, Puzzle(*problem, [f"grid: {' '.join(rows)}"], changes))
 
 
 def numbers_of(path: str, number: int, line: str, width: int) -> list[int]:
@@ -492,7 +470,7 @@ def numbers_of(path: str, number: int, line: str, width: int) -> list[int]:
     return blocks
 
 
-def read_nonogram(path: str) -> tuple[list[list[int]], list[list[int]]]:
+def read_nonogram(path: str) -> tuple[list[puzzles.Blocks], list[puzzles.Blocks]]:
     """The lengths of the blocks of each row and of each column."""
     parts = blocks_of(path)
     if len(parts) != 2:
@@ -503,8 +481,12 @@ def read_nonogram(path: str) -> tuple[list[list[int]], list[list[int]]]:
     rows, columns = ([numbers_of(path, number, line, len(other)) for number, line in part] for part, other in zip(parts, reversed(parts)))
     across, down = (sum(sum(blocks) for blocks in lines) for lines in (rows, columns))
     if across != down:
-        no_cover(f"{path}: the rows have {across} black cells and the columns {down}")
-    return rows, columns
+        no_cover(f"{path}: the rows have {across} black cells and the columns {down}", puzzles.without_line([*rows], [*columns]))
+    return [*rows], [*columns]
+
+
+def nonogram(note: str, rows: list[puzzles.Blocks], columns: list[puzzles.Blocks]) -> None:
+    put_down(note, Puzzle(*made_by(puzzles.nonogram, rows, columns), changes=puzzles.without_line(rows, columns)))
 
 
 def read_cubes(path: str) -> Pieces:
@@ -571,7 +553,7 @@ def colored_map(given: Namespace, note: str) -> None:
     if "" in colors or len(set(colors)) < len(colors):
         stop(f"--colors takes different names with commas between, not '{given.colors}'")
     pairs = dict.fromkeys((min(pair), max(pair)) for pair in borders)
-    coloring("-", note, list(pairs), colors, given_colors(given.file, borders, colors))
+    put_down(note, puzzles.coloring(list(pairs), colors, given_colors(given.file, borders, colors)))
 
 
 def squares_on_board(given: Namespace, note: Note) -> None:
@@ -655,8 +637,7 @@ KINDS: dict[str, Callable[[Namespace, Note], None]] = {
         "-", note(f"{'' if given.repeat else 'different '}words in a square, across and down"), read_words(given.file, given.ignore_case), repeat=given.repeat),
     "crossword": lambda given, note: crossword(
         given, note(f"{'' if given.repeat else 'different '}words in a grid, across and down")),
-    "nonogram": lambda given, note: write(
-        "-", note("black cells in rows and columns, by the lengths of their blocks"), *made_by(puzzles.nonogram, *read_nonogram(given.file))),
+    "nonogram": lambda given, note: nonogram(note("black cells in rows and columns, by the lengths of their blocks"), *read_nonogram(given.file)),
     "cubes": lambda given, note: write(
         "-", note("cubes in a row, turned so that no side of the row shows a colour twice"), *puzzles.cubes(read_cubes(given.file))),
 }
@@ -691,6 +672,19 @@ def command_line() -> argparse.ArgumentParser:
     return parser
 
 
+def kinds_listed() -> str:
+    """The names of all kinds, in a sentence."""
+    return ", ".join(list(KINDS)[:-1]) + f" and {list(KINDS)[-1]}"
+
+
+def help_of(kind: str) -> str:
+    """What the help of all kinds says of one: its own lines, and of a timetable what its columns are."""
+    text = __doc__ or ""
+    found = re.search(rf"^    {kind} .*\n(?: {{35}}.*\n)*", text, re.MULTILINE)
+    columns = re.search(r"^Blanks, commas.*?(?=\n\nFILE may be)", text, re.MULTILINE | re.DOTALL)
+    return (found[0] if found else "") + (f"\n{columns[0]}" if kind == "timetable" and columns else "")
+
+
 def kinds_of(parser: argparse.ArgumentParser) -> list[argparse.ArgumentParser]:
     """Adds the kinds to a command line; the command lines of all kinds."""
     kinds = parser.add_subparsers(dest="kind", metavar="KIND")
@@ -721,6 +715,8 @@ def kinds_of(parser: argparse.ArgumentParser) -> list[argparse.ArgumentParser]:
     crossword.add_argument("file", metavar="WORDS", help="words of any length")
     kinds.choices["squares"].add_argument("file", metavar="FILE", help="a name and four colours a line")
     add_options(kinds.choices)
+    for kind, words in kinds.choices.items():
+        words.description, words.formatter_class = as_called(help_of("word-square" if kind == "words" else kind)), argparse.RawDescriptionHelpFormatter
     return list(dict.fromkeys(kinds.choices.values()))
 
 
@@ -755,8 +751,8 @@ def examples() -> None:
     sudoku("sudoku.dlx", "a sudoku: its empty cells, and what rows, columns and boxes still lack", [
         "8........", "..36.....", ".7..9.2..", ".5...7...", "....457..", "...1...3.", "..1....68", "..85...1.", ".9....4.."])
     borders = ["WA NT", "WA SA", "NT SA", "NT Q", "SA Q", "SA NSW", "SA V", "Q NSW", "NSW V"]
-    coloring("australia.dlx", "three colours for the states of Australia on its mainland",
-             [(one, other) for one, other in map(str.split, borders)], ["red", "green", "blue"])
+    pairs = [(one, other) for one, other in map(str.split, borders)]
+    put_down("three colours for the states of Australia on its mainland", puzzles.coloring(pairs, ["red", "green", "blue"], {}), "australia.dlx")
     triples("fano-plane.dlx", "seven lines of three points, so that any two of seven points lie on one line", 7)
     squares("squares-3x3.dlx", "nine squares, edge to edge in one colour, and grey all round", rectangle(3, 3),
             {line[0]: line.split()[1:] for line in SQUARES}, "grey")

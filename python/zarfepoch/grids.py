@@ -1,21 +1,25 @@
 """Kakuro and star battles as exact covers."""
 from __future__ import annotations
 
+import functools
 import itertools
 import re
-from collections.abc import Iterable
+from collections.abc import Iterable, Iterator
 from typing import Optional
 
 from .cover_files import MAX_OCCURRENCES, MAX_OPTIONS
 from .fault_words import plural
 from .name_texts import names_in
-from .puzzle_texts import blocks_of, no_cover, Puzzle, refuse
+from .picture_base import cell_words
+from .puzzle_texts import blocks_of, Change, no_cover, Puzzle, refuse
 from .puzzles import cell_names
 from .sudokus import cells_by_letter, letters_of, sums_of_digits, want_whole
 
 # a cell by row and column; the sum below a black cell and the one on its right
 Cell = tuple[int, int]
 Clue = tuple[Optional[int], Optional[int]]
+# a sum that may be any
+ANY = -1
 
 # ---- kakuro
 
@@ -24,7 +28,7 @@ class Run:
 
     def __init__(self, name: str, cells: list[Cell], total: int, line: int) -> None:
         self.name, self.cells, self.total, self.line = name, cells, total, line
-        self.choices = [set(chosen) for chosen in itertools.combinations(range(1, 10), len(cells)) if sum(chosen) == total]
+        self.choices = [set(chosen) for chosen in itertools.combinations(range(1, 10), len(cells)) if total in (ANY, sum(chosen))]
         self.possible = sorted(set().union(*self.choices))
 
     def options(self) -> list[list[str]]:
@@ -87,23 +91,39 @@ def runs_of(path: str, rows: list[list[Clue | None]], numbers: list[int]) -> tup
     return runs, clued
 
 
-def want_equal(path: str, runs: list[Run], clued: dict[Cell, set[Cell]]) -> None:
+def want_equal(path: str, runs: list[Run], clued: dict[Cell, set[Cell]], changes: list[Change]) -> None:
     """Ends the script where all sums across and all sums down are of the same cells, and don't make the same."""
     across, down = (sum(run.total for run in runs if run.name.startswith(way)) for way in "ad")
-    if clued[0, 1] == clued[1, 0] and across != down:
-        no_cover(f"{path}: the sums across make {across} together, and those down {down}, of the same cells")
+    if clued[0, 1] == clued[1, 0] and across != down and all(run.total != ANY for run in runs):
+        no_cover(f"{path}: the sums across make {across} together, and those down {down}, of the same cells", changes)
+
+
+def without_sum(path: str, rows: list[list[Clue | None]], numbers: list[int]) -> Iterator[Change]:
+    """A kakuro without each of its sums."""
+    for (r, row), way in itertools.product(enumerate(rows), (0, 1)):
+        for c, clue in enumerate(row):
+            if clue and clue[way] is not None:
+                free = (ANY, clue[1]) if way == 0 else (clue[0], ANY)
+                changed = [[free if (a, b) == (r, c) else other for b, other in enumerate(line)] for a, line in enumerate(rows)]
+                where = f"{'to the right of' if way else 'below'} {cell_words((r, c))}"
+                yield Change(f"without the sum {clue[way]} {where}", functools.partial(kakuro_of, path, changed, numbers))
 
 
 def kakuro(path: str) -> Puzzle:
     """Each white cell has a digit, each run different ones with its sum."""
-    rows, numbers = read_kakuro(path)
+    return kakuro_of(path, *read_kakuro(path))
+
+
+def kakuro_of(path: str, rows: list[list[Clue | None]], numbers: list[int]) -> Puzzle:
+    """The kakuro of these clues, which stand in lines with these numbers."""
+    changes = list(without_sum(path, rows, numbers))
     runs, clued = runs_of(path, rows, numbers)
     names = cell_names(len(rows), len(rows[0]))
     run_of: dict[Cell, list[Run]] = {}
     for run in runs:
         for cell in run.cells:
             run_of.setdefault(cell, []).append(run)
-    want_equal(path, runs, clued)
+    want_equal(path, runs, clued, changes)
     white = [(r, c) for r, row in enumerate(rows) for c, clue in enumerate(row) if clue is None]
     if not white:
         refuse(path, None, "there is no white cell")
@@ -119,7 +139,7 @@ def kakuro(path: str) -> Puzzle:
                if all(digit in run.possible for run in run_of[cell])]
     options += [option for run in runs for option in run.options()]
     items = [names[cell] for cell in white] + [item for run in runs for item in run.items()]
-    return Puzzle(items, [], options, [f"size: {len(rows)} {len(rows[0])}"])
+    return Puzzle(items, [], options, [f"size: {len(rows)} {len(rows[0])}"], changes)
 
 
 # ---- star battles

@@ -1,6 +1,7 @@
 """Puzzles of numbers and signs in grids as exact covers: dominosa, tents, shikaku, futoshiki, KenKen and binairo."""
 from __future__ import annotations
 
+import functools
 import itertools
 import math
 import re
@@ -11,7 +12,8 @@ from typing import Optional
 from .cover_files import MAX_OPTIONS
 from .fault_words import plural
 from .name_texts import names_in
-from .puzzle_texts import blocks_of, no_cover, Puzzle, refuse, rows_of
+from .picture_base import cell_words
+from .puzzle_texts import blocks_of, Change, no_cover, Puzzle, refuse, rows_of
 from .puzzles import cell_names
 from .sudokus import cells_by_letter, EMPTY, letters_of, want_whole
 
@@ -65,10 +67,28 @@ def dominosa(path: str) -> Puzzle:
     if abs(high - wide) != 1:
         refuse(path, None, f"a set of dominoes from 0-0 to {most}-{most} fills {most + 1} by {most + 2} cells, and here are {high} by {wide}")
     values = {(r, c): number_of(path, number, mark, c, 0, most) for r, (number, row) in enumerate(rows) for c, mark in enumerate(row)}
+    return dominoes_on(path, values, most)
+
+
+def replaced(path: str, values: dict[Cell, int], most: int) -> list[Change]:
+    """Where one number is there once too often, and another lacks once: changes of one cell that mend it."""
+    counts = Counter(values.values())
+    wrong = {value: counts[value] - most - 2 for value in range(most + 1) if counts[value] != most + 2}
+    if sorted(wrong.values()) != [-1, 1]:
+        return []
+    lacking, often = sorted(wrong, key=wrong.__getitem__)
+    return [Change(f"with a {lacking} in place of the {often} in {cell_words(cell)}", functools.partial(dominoes_on, path, {**values, cell: lacking}, most))
+            for cell, value in values.items() if value == often]
+
+
+def dominoes_on(path: str, values: dict[Cell, int], most: int) -> Puzzle:
+    """The dominoes of a set on numbers."""
     counts = Counter(values.values())
     for value in range(most + 1):
         if counts[value] != most + 2:
-            no_cover(f"{path}: the number {value} stands in {plural(counts[value], 'cell')}, and the dominoes have it {most + 2} times")
+            no_cover(f"{path}: the number {value} stands in {plural(counts[value], 'cell')}, and the dominoes have it {most + 2} times",
+                     replaced(path, values, most))
+    high, wide = (max(cell[k] for cell in values) + 1 for k in (0, 1))
     names = cell_names(high, wide)
     options = []
     for (r, c), value in values.items():
@@ -77,7 +97,8 @@ def dominosa(path: str) -> Puzzle:
                 low, high_value = sorted((value, values[other]))
                 options.append([f"d{low}.{high_value}", names[r, c], names[other]])
     dominoes = [f"d{low}.{high_value}" for low, high_value in itertools.combinations_with_replacement(range(most + 1), 2)]
-    return Puzzle(dominoes + list(names.values()), [], options, [f"numbers: {told_rows([row for _, row in rows])}"])
+    rows = [[str(values[r, c]) for c in range(wide)] for r in range(high)]
+    return Puzzle(dominoes + list(names.values()), [], options, [f"numbers: {told_rows(rows)}"])
 
 
 # ---- tents
@@ -114,12 +135,39 @@ def ways_apart(cells: list[Cell], count: int) -> Iterator[tuple[Cell, ...]]:
 
 def tents(path: str) -> Puzzle:
     """Each tree gets a tent of its own beside it; tents don't touch, and numbers count those of rows and columns."""
-    rows, beside, below, lines = read_tents(path)
+    return tents_beside(path, *read_tents(path))
+
+
+def recounted(path: str, rows: list[list[str]], beside: list[int], below: list[int], lines: list[int]) -> list[Change]:
+    """Where trees and numbers don't agree: changes of one number, or of one tree, after which they do."""
+    trees = sum(row.count("T") for row in rows)
+    across, down = trees - sum(beside), trees - sum(below)
+    changes = []
+    for kind, by, numbers in (("row", across, beside), ("column", down, below)):
+        for k, number in enumerate(numbers):
+            if by and by == across + down and number + by >= 0:
+                other = [number + by if place == k else one for place, one in enumerate(numbers)]
+                both = (other, below) if kind == "row" else (beside, other)
+                changes.append(Change(f"with {number + by} in place of the {number} of {kind} {k + 1}",
+                                      functools.partial(tents_beside, path, rows, *both, lines)))
+    if across == down and across in (-1, 1):
+        for r, c in itertools.product(range(len(rows)), range(len(below))):
+            if (rows[r][c] == "T") == (across == 1):
+                planted = [["." if across == 1 else "T" if cell == (r, c) else mark for cell, mark in zip(((a, b) for b in range(len(row))), row)]
+                           if a == r else row for a, row in enumerate(rows)]
+                changes.append(Change(f"with{'out the' if across == 1 else ' a'} tree in {cell_words((r, c))}",
+                                      functools.partial(tents_beside, path, planted, beside, below, lines)))
+    return changes
+
+
+def tents_beside(path: str, rows: list[list[str]], beside: list[int], below: list[int], lines: list[int]) -> Puzzle:
+    """Tents beside trees, by the numbers of rows and columns."""
     high, wide = len(rows), len(below)
     names = cell_names(high, wide)
     trees = [(r, c) for r, row in enumerate(rows) for c, mark in enumerate(row) if mark == "T"]
     if not sum(beside) == sum(below) == len(trees):
-        no_cover(f"{path}: there are {plural(len(trees), 'tree')}, and the numbers make {sum(beside)} tents in rows and {sum(below)} in columns")
+        no_cover(f"{path}: there are {plural(len(trees), 'tree')}, and the numbers make {sum(beside)} tents in rows and {sum(below)} in columns",
+                 recounted(path, rows, beside, below, lines))
     near = {tree: [cell for cell in ((tree[0] - 1, tree[1]), (tree[0], tree[1] + 1), (tree[0] + 1, tree[1]), (tree[0], tree[1] - 1))
                    if cell in names and cell not in trees] for tree in trees}
     can_be = sorted({cell for cells in near.values() for cell in cells})
@@ -152,8 +200,21 @@ def shikaku(path: str) -> Puzzle:
     rows = grid_of(path, only_block(path))
     high, wide = len(rows), len(rows[0][1])
     clues = {(r, c): number_of(path, number, mark, c, 1, 999) for r, (number, row) in enumerate(rows) for c, mark in enumerate(row) if mark not in EMPTY | {"0"}}
+    return rectangles_round(path, clues, (high, wide), [number for number, _ in rows])
+
+
+def resized(path: str, clues: dict[Cell, int], size: Cell, lines: list[int]) -> list[Change]:
+    """Where the numbers don't make all cells: changes of one of them after which they do."""
+    by = size[0] * size[1] - sum(clues.values())
+    return [Change(f"with {area + by} in place of the {area} in {cell_words(cell)}",
+                   functools.partial(rectangles_round, path, {**clues, cell: area + by}, size, lines)) for cell, area in clues.items() if area + by > 0]
+
+
+def rectangles_round(path: str, clues: dict[Cell, int], size: Cell, lines: list[int]) -> Puzzle:
+    """The rectangles round numbers in a grid of so many rows and columns."""
+    high, wide = size
     if sum(clues.values()) != high * wide:
-        no_cover(f"{path}: the numbers make {sum(clues.values())} together, and the grid has {high * wide} cells")
+        no_cover(f"{path}: the numbers make {sum(clues.values())} together, and the grid has {high * wide} cells", resized(path, clues, size, lines))
     names, options = cell_names(high, wide), []
     for (r, c), area in clues.items():
         found = []
@@ -163,9 +224,9 @@ def shikaku(path: str) -> Puzzle:
                 if top >= 0 and left >= 0 and top + tall <= high and left + broad <= wide and sum(cell in clues for cell in cells) == 1:
                     found.append([names[cell] for cell in cells])
         if not found:
-            no_cover(f"{path}, line {rows[r][0]}: no rectangle of {plural(area, 'cell')} round the number {area} in column {c + 1} has no other number")
+            no_cover(f"{path}, line {lines[r]}: no rectangle of {plural(area, 'cell')} round the number {area} in column {c + 1} has no other number")
         options += found
-    return Puzzle(list(names.values()), [], options, [f"numbers: {told_rows([['.' if mark in EMPTY | {'0'} else mark for mark in row] for _, row in rows])}"])
+    return Puzzle(list(names.values()), [], options, [f"numbers: {told_rows([[str(clues.get((r, c), '.')) for c in range(wide)] for r in range(high)])}"])
 
 
 # ---- futoshiki
@@ -215,13 +276,32 @@ def futoshiki(path: str) -> Puzzle:
             refuse(path, number, f"{plural(size, 'cell')} with digits up to {size} are expected, as there are rows, and here are {len(row)}")
     if not 2 <= size <= 9:
         refuse(path, None, f"2 to 9 rows are expected, and here are {size}")
+    return signed_square(path, rows, pairs, lines)
+
+
+def without_digit(rows: list[list[int]], cell: Cell) -> list[list[int]]:
+    """Rows of digits, of which one is taken out."""
+    return [[0 if (r, c) == cell else digit for c, digit in enumerate(row)] for r, row in enumerate(rows)]
+
+
+def without_one(path: str, rows: list[list[int]], pairs: list[tuple[Cell, Cell]], lines: list[int]) -> list[Change]:
+    """A futoshiki without each of its digits, and without each of its signs."""
+    digits = [Change(f"without the {digit} in {cell_words((r, c))}", functools.partial(signed_square, path, without_digit(rows, (r, c)), pairs, lines))
+              for r, row in enumerate(rows) for c, digit in enumerate(row) if digit]
+    return digits + [Change(f"without the sign between {cell_words(min(pair))} and {cell_words(max(pair))}",
+                            functools.partial(signed_square, path, rows, [other for other in pairs if other != pair], lines)) for pair in pairs]
+
+
+def signed_square(path: str, rows: list[list[int]], pairs: list[tuple[Cell, Cell]], lines: list[int]) -> Puzzle:
+    """A square of given digits and signs."""
+    size, changes = len(rows), without_one(path, rows, pairs, lines)
     low, high = ({cell: len(chain) for cell, chain in longest(size, pairs, way).items()} for way in (0, 1))
     options = []
     for r, c in itertools.product(range(size), repeat=2):
         given = rows[r][c]
         digits = [digit for digit in range(1 + low[r, c], size + 1 - high[r, c]) if given in (0, digit)]
         if not digits:
-            no_cover(f"{path}, line {lines[r]}: no digit fits in column {c + 1}, by the signs beside it")
+            no_cover(f"{path}, line {lines[r]}: no digit fits in column {c + 1}, by the signs beside it", changes)
         for digit in digits:
             option = [f"p{r}{c}", f"r{r}{digit}", f"c{c}{digit}"]
             option += [f"e{k}<{t}" for k, (less, more) in enumerate(pairs) for t in range(2, size)
@@ -231,7 +311,7 @@ def futoshiki(path: str) -> Puzzle:
     used = {word for option in options for word in option}
     told = ["given: " + " ".join("".join(str(digit or ".") for digit in row) for row in rows)]
     told += ["less: " + " ".join(f"{a}{b}-{c}{d}" for (a, b), (c, d) in pairs)] if pairs else []
-    return Puzzle(names, [name for k in range(len(pairs)) for t in range(2, size) if (name := f"e{k}<{t}") in used], options, told)
+    return Puzzle(names, [name for k in range(len(pairs)) for t in range(2, size) if (name := f"e{k}<{t}") in used], options, told, changes)
 
 
 def longest(size: int, pairs: list[tuple[Cell, Cell]], way: int) -> dict[Cell, list[Cell]]:
@@ -271,10 +351,14 @@ def read_kenken(path: str) -> tuple[list[str], dict[str, list[Cell]], dict[str, 
     return rows, cells, makes, blocks[0]
 
 
+# the way of a cage that makes anything
+ANY = "any"
+
+
 def makes_it(way: str, total: int, digits: tuple[int, ...]) -> bool:
     """Whether digits make a number in this way."""
     least, most = min(digits), max(digits)
-    made = {"+": sum(digits), "*": math.prod(digits), "-": most - least, "/": most // least if most % least == 0 else 0, "": digits[0]}
+    made = {"+": sum(digits), "*": math.prod(digits), "-": most - least, "/": most // least if most % least == 0 else 0, "": digits[0], ANY: total}
     return made[way] == total
 
 
@@ -296,9 +380,27 @@ def fillings(cells: list[Cell], size: int, way: str, total: int) -> Iterator[tup
 def kenken(path: str) -> Puzzle:
     """A square in which each row and column has each digit; the digits of each cage make its number."""
     rows, cells, makes, lines = read_kenken(path)
-    size, options = len(rows), list[list[str]]()
-    if not 2 <= size <= 9:
-        refuse(path, None, f"2 to 9 rows are expected, and here are {size}")
+    if not 2 <= len(rows) <= 9:
+        refuse(path, None, f"2 to 9 rows are expected, and here are {len(rows)}")
+    return caged_square(path, rows, cells, makes, lines)
+
+
+def without_cage(path: str, rows: list[str], cells: dict[str, list[Cell]], makes: dict[str, tuple[str, int]], lines: list[tuple[int, str]]) -> list[Change]:
+    """A KenKen without what each of its cages makes: its cells are cages of their own then, which make anything."""
+    changes = []
+    for letter, its_cells in cells.items():
+        own = {f"{letter}{k}": cell for k, cell in enumerate(its_cells)}
+        others = {other: some for other, some in cells.items() if other != letter}
+        parted = {**others, **{name: [cell] for name, cell in own.items()}}
+        made = {**{other: makes[other] for other in others}, **dict.fromkeys(own, (ANY, 0))}
+        way, total = makes[letter]
+        changes.append(Change(f"without the {total}{way} of the cage {letter}", functools.partial(caged_square, path, rows, parted, made, lines)))
+    return changes
+
+
+def caged_square(path: str, rows: list[str], cells: dict[str, list[Cell]], makes: dict[str, tuple[str, int]], lines: list[tuple[int, str]]) -> Puzzle:
+    """A square with cages and what they make."""
+    size, options, changes = len(rows), list[list[str]](), without_cage(path, rows, cells, makes, lines)
     for k, (letter, its_cells) in enumerate(cells.items()):
         before = len(options)
         for digits in fillings(its_cells, size, *makes[letter]):
@@ -307,10 +409,10 @@ def kenken(path: str) -> Puzzle:
                 refuse(path, lines[its_cells[0][0]][0], f"the cages can be filled in more than {MAX_OPTIONS:,} ways, and the program reads no more options")
         if len(options) == before:
             total, way = makes[letter][1], makes[letter][0]
-            no_cover(f"{path}, line {lines[its_cells[0][0]][0]}: no digits of the cage {letter} make {total}{way}")
+            no_cover(f"{path}, line {lines[its_cells[0][0]][0]}: no digits of the cage {letter} make {total}{way}", changes)
     names = [f"k{k}" for k in range(len(cells))] + [f"{kind}{a}{digit}" for kind in "rc" for a in range(size) for digit in range(1, size + 1)]
     told = [f"cages: {' '.join(rows)}", "makes: " + " ".join(f"{letter}={total}{way}" for letter, (way, total) in makes.items())]
-    return Puzzle(names, [], options, told)
+    return Puzzle(names, [], options, told, changes)
 
 
 # ---- binairo
@@ -333,7 +435,21 @@ def binairo(path: str, alike: bool = False) -> Puzzle:
         wrong = next((mark for mark in row if mark not in {"0", "1"} | EMPTY - {"x", "X"}), None)
         if wrong:
             refuse(path, number, f"'{wrong}' is no cell: 0 and 1 are given ones, and a dot is an empty one")
-    marks = [["." if mark in EMPTY else mark for mark in row] for _, row in rows]
+    return filled_lines(path, [["." if mark in EMPTY else mark for mark in row] for _, row in rows], [number for number, _ in rows], alike)
+
+
+def without_mark(path: str, marks: list[list[str]], numbers: list[int], alike: bool) -> list[Change]:
+    """A binairo without each of its given marks."""
+    def other(cell: Cell) -> list[list[str]]:
+        return [["." if (r, c) == cell else mark for c, mark in enumerate(row)] for r, row in enumerate(marks)]
+
+    return [Change(f"without the {mark} in {cell_words((r, c))}", functools.partial(filled_lines, path, other((r, c)), numbers, alike))
+            for r, row in enumerate(marks) for c, mark in enumerate(row) if mark != "."]
+
+
+def filled_lines(path: str, marks: list[list[str]], numbers: list[int], alike: bool) -> Puzzle:
+    """Given noughts and ones, whose rows have these numbers in the text."""
+    size, changes = len(marks), without_mark(path, marks, numbers, alike)
     names, every = cell_names(size, size), lines_of(size)
     options: list[list[str]] = []
     fitting: dict[tuple[str, str], int] = {}
@@ -341,8 +457,8 @@ def binairo(path: str, alike: bool = False) -> Puzzle:
         for k, given in enumerate(some):
             found = [line for line in every if all(mark in (".", cell) for mark, cell in zip(given, line))]
             if not found:
-                no_cover(f"{path}{f', line {rows[k][0]}' if kind == 'row' else ''}: {kind} {k + 1} can't be filled with as many noughts as ones, no three "
-                         "alike side by side")
+                no_cover(f"{path}{f', line {numbers[k]}' if kind == 'row' else ''}: {kind} {k + 1} can't be filled with as many noughts as ones, no three "
+                         "alike side by side", changes)
             for line in found:
                 fitting[kind, line] = fitting.get((kind, line), 0) + 1
                 cells = [names[(k, j) if kind == "row" else (j, k)] for j in range(size)]
@@ -350,4 +466,4 @@ def binairo(path: str, alike: bool = False) -> Puzzle:
     once = {f"{kind}s-{line}" for (kind, line), count in fitting.items() if count > 1 and not alike}
     options = [[word for word in option if "s-" not in word or word in once] for option in options]
     primary = [f"{kind}{k}" for kind in ("row", "column") for k in range(size)]
-    return Puzzle(primary, list(names.values()) + sorted(once), options, ["given: " + " ".join(map("".join, marks))])
+    return Puzzle(primary, list(names.values()) + sorted(once), options, ["given: " + " ".join(map("".join, marks))], changes)

@@ -1,18 +1,21 @@
 """Problems of exact covering, as items and options of Python, and how the program answers them."""
 from __future__ import annotations
 
+import contextlib
 import math
 import os
 import subprocess
-from collections.abc import Hashable, Iterable, Iterator
+from collections.abc import Hashable, Iterable, Iterator, Mapping
 from typing import cast, NamedTuple, Optional, Union
 
 from . import cover_files, cover_reason
+from .all_covers import Covers, Run
 from .cover_files import MAX_COLOURS, MAX_ITEMS, MAX_NAME, MAX_OCCURRENCES, MAX_OPTIONS
 from .errors import (
     ColoredPrimary, NoAnswer, OutOfMemory, ProblemError, ProgramError, RepeatedItem, TimeIsUp, TooLarge, UncleanAudit, UnknownItem, WrongNumber)
 from .fault_words import fault_words
-from .programs import find_program, tied
+from .programs import find_program, own_words, tied
+from .search_parts import part_text, places_in, Prefix, Tree
 
 # the program takes a limit of at most a million seconds
 MOST_SECONDS = 999_999
@@ -93,10 +96,11 @@ class Problem:
     def __init__(self, primary: Optional[Iterable[Hashable]] = None, secondary: Iterable[Hashable] = (),
                  options: Iterable[Iterable[Word]] = ()) -> None:
         self.secondary = tuple(secondary)
+        want_list(options)
+        listed = [option_in(option, place) for place, option in enumerate(options)]
         if primary is None:
-            options = [tuple(option) for option in options]
             others = set(self.secondary)
-            primary = dict.fromkeys(item for option in options for item, _ in map(parts_of, option) if item not in others)
+            primary = dict.fromkeys(item for option in listed for item, _ in map(parts_of, option) if item not in others)
         self.primary = tuple(primary)
         self._places: dict[Hashable, int] = {}
         self._options: list[tuple[Word, ...]] = []
@@ -106,8 +110,8 @@ class Problem:
             if item in self._places:
                 raise RepeatedItem(f"{item!r} stands twice among the items", item=item)
             self._places[item] = len(self._places)
-        for option in options:
-            self._add(tuple(option))
+        for option in listed:
+            self._add(option)
 
     def add(self, *words: Union[Word, Iterable[Word]]) -> int:
         """Adds an option, given as its items or as one list of them, and answers its place."""
@@ -164,11 +168,8 @@ class Problem:
         lines = self._numbered_lines()
         status, answer, why = self._ask(words, lines, seconds)
         found = answer.pop() if audit and answer and answer[-1].startswith("audit ") else ""
-        if (status, answer[:1]) == (0, [f"cover {len(answer) - 1}"]):
-            return chosen_of(answer[1:], lines)
-        if (status, answer) == (1, ["none"]):
-            return None
-        raise failure(status, found.partition(": ")[2] if status == 6 else why)
+        chosen = lines_chosen(status, answer, found.partition(": ")[2] if status == 6 else why)
+        return None if chosen is None else chosen_of(chosen, lines)
 
     def chosen(self, seconds: Optional[float] = None, *, nodes: Optional[int] = None, workers: Optional[int] = None,
                audit: bool = False) -> Optional[list[tuple[Word, ...]]]:
@@ -177,23 +178,15 @@ class Problem:
         return None if places is None else [self[place] for place in places]
 
     def covers(self, seconds: Optional[float] = None) -> Iterator[list[int]]:
-        """Each exact cover once, as the places of its options. Each is found by a search of its own, which may take so many seconds, in a problem
-        that has an item more for each cover before: after some hundred covers that raises `TooLarge`."""
-        found: list[list[int]] = []
-        while True:
-            cover = self._lacking(found).solve(seconds)
-            if cover is None:
-                return
-            found.append([place for place in cover if place < len(self)])
-            yield found[-1]
-
-    def _lacking(self, covers: list[list[int]]) -> Problem:
-        """The problem of the covers that lack an option of each of these: each has an item of its own, covered by barring one of its options."""
-        lacks = [object() for _ in covers]
-        bars = {place: object() for cover in covers for place in cover}
-        used = [[*option, *([Colored(bars[place], "used")] if place in bars else [])] for place, option in enumerate(self)]
-        barred = [[item, Colored(bars[place], "barred")] for item, cover in zip(lacks, covers) for place in cover]
-        return Problem([*self.primary, *lacks], [*self.secondary, *bars.values()], used + barred)
+        """Each exact cover once, as the places of its options. A plain search in Python goes through all of them; where it meets none for a while, the
+        program is asked meanwhile whether there are any in the rest (`all_covers`). `TimeIsUp` where neither a cover nor the end comes in so many
+        seconds."""
+        limit, program = checked_seconds(seconds), find_program()
+        tree = Tree(cover_files.read_problem(self._numbered_text(self._numbered_lines())))
+        kept = [place for place, option in enumerate(self) if self._is_kept(option)]
+        found = Covers(tree, lambda prefix: Asked(program, tree, prefix)).each(limit)
+        with contextlib.closing(found):
+            yield from (sorted(kept[place] for place in cover) for cover in found)
 
     def reason(self, seconds: Optional[float] = None) -> Optional[Reason]:
         """Why there is no cover, if the program finds a reason without a search. None says nothing."""
@@ -234,9 +227,13 @@ class Problem:
             lines.append(" ".join(str(item) if colour is None else f"{item}:{colours.setdefault(colour, len(colours))}" for item, colour in parts))
         return lines
 
+    def _is_kept(self, option: tuple[Word, ...]) -> bool:
+        """Whether an option has a primary item, so that a cover may have it."""
+        return any(self.is_primary(parts_of(word)[0]) for word in option)
+
     def _numbered_text(self, lines: list[str]) -> bytes:
         """The problem as the program gets it. Options without a primary item are left out: no cover has them."""
-        kept = [line for option, line in zip(self._options, lines) if any(self.is_primary(parts_of(word)[0]) for word in option)]
+        kept = [line for option, line in zip(self._options, lines) if self._is_kept(option)]
         words = [word for line in kept for word in line.split()]
         colours = {word.partition(":")[2] for word in words if ":" in word}
         for number, most, what in ((len(self._places), MAX_ITEMS, "items"), (len(kept), MAX_OPTIONS, "options"),
@@ -303,6 +300,42 @@ class Problem:
         cover_files.put_bytes(os.fspath(path), self.text())
 
 
+class Asked:
+    """What the program answers about a prefix of a problem's search tree, while Python goes on."""
+
+    def __init__(self, program: str, tree: Tree, prefix: Prefix) -> None:
+        self.prefix = prefix
+        self.places = {tree.words(place).decode(): place for place in reversed(places_in(prefix.live))}
+        try:
+            self.run = Run([program, "answer", "-"], part_text(tree, prefix, 1, 1))
+        except OSError as why:
+            raise ProgramError(f"the program can't be run: {why}") from None
+
+    def is_answered(self) -> bool:
+        return self.run.is_over()
+
+    def answer(self) -> Optional[frozenset[int]]:
+        lines = lines_chosen(self.run.process.returncode, self.run.output.decode().splitlines(), self.run.errors.decode(errors="replace").strip())
+        return None if lines is None else frozenset([*self.prefix.options, *(self.places[line] for line in lines)])
+
+    def end(self) -> None:
+        self.run.end()
+
+
+def want_list(options: object) -> None:
+    """Refuses options that are a dict, of which keys would be taken for options."""
+    if isinstance(options, Mapping):
+        raise ProblemError("the options are a dict: a list of options is expected, as list(options.values())")
+
+
+def option_in(option: Iterable[Word], place: int) -> tuple[Word, ...]:
+    """An option of a list; `ProblemError` where it is one text or a dict, of which letters or keys would be the items."""
+    if isinstance(option, (str, bytes, Mapping)):
+        what = "a dict" if isinstance(option, Mapping) else f"the text {option!r}"
+        raise ProblemError(f"option {place} is {what}: a list of items is expected, as [{'item' if isinstance(option, Mapping) else repr(option)}]", option=place)
+    return tuple(option)
+
+
 def named(name: bytes) -> str:
     """A name of a file as a text, from which the same bytes come again."""
     return name.decode("utf-8", "surrogateescape")
@@ -328,6 +361,15 @@ def name_of_word(word: Word, place: int) -> str:
     return name if colour is None else f"{name}:{checked_name(colour, place)}"
 
 
+def lines_chosen(status: int, answer: list[str], why: str) -> Optional[list[str]]:
+    """The lines of a cover in what the program wrote, or None where it says that there is none; raises what has failed."""
+    if (status, answer[:1]) == (0, [f"cover {len(answer) - 1}"]):
+        return answer[1:]
+    if (status, answer) == (1, ["none"]):
+        return None
+    raise failure(status, why)
+
+
 def chosen_of(answer: list[str], lines: list[str]) -> list[int]:
     """The places of the options in the lines of an answer; of equal options the first that is free."""
     places: dict[str, list[int]] = {}
@@ -342,4 +384,4 @@ def failure(status: int, why: str) -> Exception:
         return OutOfMemory("the program ran out of memory")
     other = f"the program {find_program()} ended with status {status}" + (", and wrote no answer: is it solve_cli?" if status in (0, 1) else "")
     kind, what = {4: (NoAnswer, "no answer"), 6: (UncleanAudit, "the audit is unclean")}.get(status, (ProgramError, other))
-    return kind(f"{what}: {why}" if why else what, status)
+    return kind(f"{what}: {own_words(why)}" if why else what, status)

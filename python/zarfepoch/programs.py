@@ -30,6 +30,11 @@ def tied(words: list[str]) -> list[str]:
     return [setpriv, "--pdeathsig", "KILL", "--", *words] if setpriv else words
 
 
+def own_words(why: str) -> str:
+    """What the program says of a run without an answer, without the commands that it would advise and the package hasn't."""
+    return why.removeprefix("ended: ").replace(", or solve", "").replace(", or answer", "").replace(", or --unlimited", "")
+
+
 def missing_program(named: Optional[str]) -> str:
     """What is said where there is no program, at the place that is named, if one is."""
     where = named or "solve_cli, neither named by ZARFEPOCH nor on the path"

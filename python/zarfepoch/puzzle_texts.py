@@ -4,10 +4,11 @@ from __future__ import annotations
 import re
 import sys
 import unicodedata
+from collections.abc import Iterable
 from dataclasses import dataclass, field
-from typing import NoReturn
+from typing import Callable, NoReturn
 
-from .cover_files import stop
+from .cover_files import complain, stop
 
 NO_COVER, MISTAKE, UNREADABLE = 1, 2, 3
 # what a puzzle is called that stands on the command line itself
@@ -17,12 +18,20 @@ READ: dict[str, bytes] = {}
 
 
 @dataclass
+class Change:
+    """A small change of what a puzzle gives, in its own words, as `without the 8 in row 8 column 6`, and the puzzle that it makes."""
+    words: str
+    puzzle: Callable[[], Puzzle]
+
+
+@dataclass
 class Puzzle:
-    """A problem's items and options, and what its file says of them in comments."""
+    """A problem's items and options, what its file says of them in comments, and changes after which it may have a solution if it has none."""
     primary: list[str]
     secondary: list[str]
     options: list[list[str]]
     comments: list[str] = field(default_factory=list)
+    changes: list[Change] = field(default_factory=list)
 
     def text(self) -> bytes:
         """The text of the problem's file."""
@@ -42,10 +51,18 @@ def refuse(path: str, line: int | None, why: str) -> NoReturn:
     raise AssertionError("the script has ended")
 
 
-def no_cover(why: str) -> NoReturn:
-    """Ends the script: the puzzle has no solution, and that is plain without a search."""
-    stop(why, NO_COVER)
-    raise AssertionError("the script has ended")
+class PlainlyNone(SystemExit):
+    """The end of a script: the puzzle has no solution, and that is plain without a search."""
+
+    def __init__(self, changes: Iterable[Change]) -> None:
+        super().__init__(NO_COVER)
+        self.changes = list(changes)
+
+
+def no_cover(why: str, changes: Iterable[Change] = ()) -> NoReturn:
+    """Ends the script: the puzzle has no solution, and that is plain without a search. With some changes it may have one."""
+    complain(why)
+    raise PlainlyNone(changes)
 
 
 def read_input() -> bytes:

@@ -1,17 +1,23 @@
-"""Crosswords, nonograms and cubes with coloured faces, as exact covers: each function gives the primary items, the secondary items and
-the options of a problem. `generate.py` reads the puzzles and writes the problems."""
+"""Crosswords, nonograms, maps and cubes with coloured faces, as exact covers: each function gives the primary items, the secondary items and
+the options of a problem, or the whole problem. `generate.py` reads the puzzles and writes the problems."""
 from __future__ import annotations
 
+import functools
 import itertools
 import math
+import os
 from collections import Counter
 from collections.abc import Iterable, Iterator
 from typing import Optional
 
-from .cover_files import MAX_ITEMS, MAX_OCCURRENCES, MAX_OPTIONS
+from .cover_files import MAX_ITEMS, MAX_NAME, MAX_OCCURRENCES, MAX_OPTIONS
+from .picture_base import cell_words
+from .puzzle_texts import Change, Puzzle
 
-# a cell by row and column; the primary items, the secondary items and the options of a problem
+# a cell by row and column; two names; the lengths of a line's blocks, None where they aren't known; the primary items, the secondary items and the options of a problem
 Cell = tuple[int, int]
+Pair = tuple[str, str]
+Blocks = Optional[list[int]]
 Lists = tuple[list[str], list[str], list[list[str]]]
 
 
@@ -84,6 +90,16 @@ def crossword(grid: list[str], words: list[str], repeat: bool = False) -> Lists:
     return list(slots), cells + [word for word in words if word in twice], options
 
 
+def without_letter(grid: list[str], words: list[str], repeat: bool) -> list[Change]:
+    """A crossword without each of its given letters."""
+    def other(cell: Cell) -> Puzzle:
+        r, c = cell
+        return Puzzle(*crossword([row[:c] + "." + row[c + 1:] if place == r else row for place, row in enumerate(grid)], words, repeat))
+
+    return [Change(f"without the {mark} in {cell_words((r, c))}", functools.partial(other, (r, c)))
+            for r, row in enumerate(grid) for c, mark in enumerate(row) if mark not in ".#"]
+
+
 def want_room(places: int, words: int, options: int) -> None:
     """Refuses a crossword beyond what the program reads, and tells what would fit."""
     if places + words > MAX_ITEMS:
@@ -100,8 +116,8 @@ def want_room(places: int, words: int, options: int) -> None:
 class Line:
     """A row or column of a nonogram: the lengths of its blocks, and of each cell whether it is black, None where that isn't settled."""
 
-    def __init__(self, blocks: list[int], width: int) -> None:
-        self.blocks = blocks
+    def __init__(self, blocks: Blocks, width: int) -> None:
+        self.is_told, self.blocks = blocks is not None, blocks or []
         self.known: list[Optional[bool]] = [None] * width
 
     def fits_block(self, place: int, length: int) -> bool:
@@ -140,7 +156,7 @@ class Line:
     def settle(self) -> bool:
         """Settles the cells that have one colour in all ways, and says whether there were any new ones."""
         before = list(self.known)
-        for place, known in enumerate(before):
+        for place, known in enumerate(before if self.is_told else []):
             for colour in (True, False):
                 self.known[place] = colour
                 if known is None and not self.rests()[0][0]:
@@ -162,7 +178,7 @@ def settle_all(rows: list[Line], columns: list[Line]) -> None:
                     others[place].known[k] = colour
 
 
-def line_names(rows: list[list[int]], columns: list[list[int]]) -> list[str]:
+def line_names(rows: list[Blocks], columns: list[Blocks]) -> list[str]:
     return [f"row{r}" for r in range(len(rows))] + [f"column{c}" for c in range(len(columns))]
 
 
@@ -172,22 +188,69 @@ def way_count(line: Line) -> int:
     return math.comb(spare + len(line.blocks), len(line.blocks))
 
 
-def nonogram(rows: list[list[int]], columns: list[list[int]]) -> Lists:
-    """Each row and each column is filled in one of its ways; a cell's colour is black or white, and both its lines agree on it. Where these
-    ways are too many, those are left out that a cell contradicts which one line alone settles."""
+def nonogram(rows: list[Blocks], columns: list[Blocks]) -> Lists:
+    """Each row and each column whose blocks are told is filled in one of its ways; a cell's colour is black or white, and both its lines agree on it.
+    Where these ways are too many, those are left out that a cell contradicts which one line alone settles."""
     names = cell_names(len(rows), len(columns))
     across, down = [Line(blocks, len(columns)) for blocks in rows], [Line(blocks, len(rows)) for blocks in columns]
-    ways = [(way_count(line), len(line.known) + 1) for line in across + down]
+    ways = [(way_count(line), len(line.known) + 1) for line in across + down if line.is_told]
     if sum(count for count, _ in ways) > MAX_OPTIONS or sum(count * names for count, names in ways) > MAX_OCCURRENCES:
         settle_all(across, down)
     cells = [[names[r, c] for c in range(len(columns))] for r in range(len(rows))]
-    options = []
+    options, told = [], [name for name, line in zip(line_names(rows, columns), across + down) if line.is_told]
     for name, line, its_cells in zip(line_names(rows, columns), across + down, cells + list(map(list, zip(*cells)))):
-        for way in line.ways():
+        for way in line.ways() if line.is_told else ():
             options.append([name] + [f"{cell}:{'black' if is_black else 'white'}" for cell, is_black in zip(its_cells, way)])
             if len(options) > MAX_OPTIONS:
                 raise Refused(f"its lines can be filled in more than {MAX_OPTIONS:,} ways, and the program reads no more options")
-    return line_names(rows, columns), list(names.values()), options
+    return told, list(names.values()), options
+
+
+def without_line(rows: list[Blocks], columns: list[Blocks]) -> list[Change]:
+    """A nonogram without the numbers of each of its lines."""
+    def other(kind: str, number: int) -> Puzzle:
+        lines = [None if place == number else blocks for place, blocks in enumerate(rows if kind == "row" else columns)]
+        return Puzzle(*(nonogram(lines, columns) if kind == "row" else nonogram(rows, lines)))
+
+    return [Change(f"without the numbers of {kind} {k + 1}", functools.partial(other, kind, k))
+            for kind, lines in (("row", rows), ("column", columns)) for k in range(len(lines))]
+
+
+# ---- maps
+
+def numbered(places: list[str], colors: list[str]) -> dict[str, str]:
+    """Numbers for the places whose names would make those of borders too long."""
+    most = (MAX_NAME - 2 - max(len(os.fsencode(color)) for color in colors)) // 2
+    long = [place for place in places if len(os.fsencode(place)) > most]
+    free = (str(number) for number in itertools.count(1) if str(number) not in places)
+    return dict(zip(long, free))
+
+
+def coloring(borders: list[Pair], colors: list[str], given: dict[str, str]) -> Puzzle:
+    """Each place has a colour, one that is given or any; a border has each colour on one side at most."""
+    changes = without_color(borders, colors, given)
+    numbers = numbered(sorted({place for border in borders for place in border}), colors)
+    borders = [(numbers.get(one, one), numbers.get(other, other)) for one, other in borders]
+    places = sorted({place for border in borders for place in border})
+    edges = ["-".join(sorted(border)) for border in borders]
+    options = []
+    known = {numbers.get(place, place): color for place, color in given.items()}
+    for place in places:
+        for color in [known[place]] if place in known else colors:
+            options.append([place] + [f"{edge}={color}" for edge in edges if place in edge.split("-")])
+    told = [f"name {number}: {place}" for place, number in numbers.items()]
+    return Puzzle(places, [f"{edge}={color}" for edge in edges for color in colors], options, told, changes)
+
+
+def without_color(borders: list[Pair], colors: list[str], given: dict[str, str]) -> list[Change]:
+    """A map without each of its given colours, and without each of its borders."""
+    freed = [Change(f"without the colour {color} of {place}",
+                    functools.partial(coloring, borders, colors, {other: its for other, its in given.items() if other != place}))
+             for place, color in given.items()]
+    opened = [Change(f"without the border of {one} and {other}",
+                     functools.partial(coloring, [pair for pair in borders if pair != (one, other)], colors, given))
+              for one, other in borders if len(borders) > 1]
+    return freed + opened
 
 
 # ---- cubes in a row

@@ -3,7 +3,8 @@
     zarfepoch KIND .. [--out FILE.svg] [--seconds N]
     zarfepoch --json FILE [--seconds N]
 
-The kinds, and what each reads, are those of examples/generate.py, whose --help describes them, as in
+The kinds are %KINDS%;
+`zarfepoch KIND --help` says what each reads, as in
 
     zarfepoch sudoku puzzle.txt                     draws the answer in the terminal
     zarfepoch killer killer.txt --out killer.svg    draws it as a picture
@@ -11,9 +12,10 @@ The kinds, and what each reads, are those of examples/generate.py, whose --help 
                                                     plans a school, and writes the plan as a table too; --plan NAME .. draws the plans of these alone
 
 Of each kind but timetables it is said whether the answer is the only one; --one leaves that out. Where there is no answer, it says why, if the
-program finds a reason without a search. With --seconds N each search ends after N seconds; without, the first goes on until it is decided, and
-the one for another answer for 10 seconds. A timetable is looked for by many short searches first, since one in which the first choices are
-wrong seldom ends. --problem FILE keeps the problem that the program gets.
+program finds a reason without a search, and what may be mistyped: the puzzle is tried without each of its digits, sums or signs, for N seconds in all
+(5 where none are told). With --seconds N each search ends after N seconds; without, the first goes on until it is decided, and the one for another
+answer for 10 seconds. --all draws each solution, and --count says how many there are, or how many were found in N seconds. A timetable is looked for by
+many short searches first, since one in which the first choices are wrong seldom ends. --problem FILE keeps the problem that the program gets.
 
 With --json FILE an object with "options", and perhaps "primary", all other items where it isn't there, and "secondary" is read, in whose options a list of
 two is an item with its colour; the answer is printed as a list of places, or null. Items and colours are texts or numbers. FILE may be -, the
@@ -25,26 +27,33 @@ something can't be read, meant or written, and 4 where there is no answer in tim
 from __future__ import annotations
 
 import argparse
+import contextlib
 import os
 import sys
+import textwrap
 import time
 from argparse import Namespace
 from collections import Counter
 from typing import Optional
 
 from . import generate
-from .another import beyond, enough, free_name, other_lines
+from .all_covers import Covers
+from .another import free_name, others_of
 from .answers import Answered, answered, planned, TRY_SECONDS
 from .command_words import as_called, parser_of
 from .cover_files import complain, Problem, put, read_audited, read_problem, stop
 from .cover_reason import found_reason
 from .draw import planned as planned_picture, table_of, write_out
-from .errors import NoProgram
+from .errors import NoProgram, OutOfMemory, ProgramError, TimeIsUp
+from .fault_words import plural
 from .impossible import core_of, core_words
+from .mistyped import SECONDS as CHANGE_SECONDS, told_changes
 from .picture_base import Kind
 from .picture_kinds import picture_of
-from .programs import find_program
-from .puzzle_texts import Puzzle
+from .problems import Asked
+from .programs import find_program, own_words
+from .puzzle_texts import Change, PlainlyNone, Puzzle
+from .search_parts import Tree
 from .svg_paper import Paper
 from .timetable_plans import Plan, read_plan
 from .timetables import Timetable
@@ -56,12 +65,16 @@ OTHER_SECONDS = 10.0
 
 
 def command_line() -> argparse.ArgumentParser:
-    parser = parser_of(__doc__)
+    parser = parser_of((__doc__ or "").replace("%KINDS%", textwrap.fill(generate.kinds_listed(), 130)))
     parser.add_argument("--json", metavar="FILE", help="a problem in JSON, in place of a kind")
     parser.add_argument("--seconds", metavar="N", type=positive, help="how long a search may take (no limit where it isn't given)")
     for words in generate.kinds_of(parser):
         words.add_argument("--out", metavar="FILE.svg", help="where the picture is written, - for the standard output")
-        words.add_argument("--one", action="store_true", help="don't ask whether the answer is the only one")
+        if not words.prog.endswith("timetable"):
+            which = words.add_mutually_exclusive_group()
+            which.add_argument("--one", action="store_true", help="don't ask whether the answer is the only one")
+            which.add_argument("--all", action="store_true", help="draw each solution, in the terminal")
+            which.add_argument("--count", action="store_true", help="say how many solutions there are, and draw none")
         words.add_argument("--problem", metavar="FILE.dlx", help="where the problem is written that the program gets")
         words.add_argument("--seconds", metavar="N", type=positive, default=argparse.SUPPRESS, help="how long a search may take")
         if words.prog.endswith("timetable"):
@@ -98,7 +111,7 @@ def asked(program: str, puzzle: Puzzle, given: Namespace) -> Answered:
     """The program's answer; ends the command where there is none in time, or the program fails."""
     found = asked_of_school(program, puzzle, given) if isinstance(puzzle, Timetable) else answered(program, puzzle.text(), given.seconds)
     if found.status == 4:
-        stop(f"no answer: {found.why}" if found.why else "no answer", NO_ANSWER)
+        stop(f"no answer: {own_words(found.why)}" if found.why else "no answer", NO_ANSWER)
     if not (found.status == 0 and found.text.startswith(b"cover ") or (found.status, found.text) == (1, b"none\n")):
         stop(f"the program {program} ended with status {found.status}, and wrote no answer" + (f": {found.why}" if found.why else ""), 3)
     if found.why:
@@ -109,16 +122,12 @@ def asked(program: str, puzzle: Puzzle, given: Namespace) -> Answered:
 def only_words(program: str, problem: Problem, answer: bytes, seconds: Optional[float]) -> str:
     """Whether an answer is the only one, in a sentence."""
     chosen = [problem.options[place].words for _, place in read_audited(answer, problem).chosen]
-    other = free_name(problem, b"other")
-    lines = list(other_lines(problem, [chosen], other))
-    if beyond(lines):
-        lines = list(other_lines(problem, [enough(problem, chosen)], other))
-    too_large = beyond(lines)
+    text, too_large = others_of(problem, [chosen], free_name(problem, b"other"))
     if too_large:
         return f"Whether it is the only solution can't be asked: that problem would have {too_large}."
     limit = seconds or OTHER_SECONDS
-    found = answered(program, b"".join(line + b"\n" for line in lines), limit)
-    told = {0: "There is another solution.", 1: "It is the only solution."}
+    found = answered(program, text, limit)
+    told = {0: "There is another solution; --all draws each.", 1: "It is the only solution."}
     return told.get(found.status, f"Whether it is the only solution wasn't decided in {limit:g} seconds; --seconds N gives more.")
 
 
@@ -142,23 +151,59 @@ def tell_none(program: str, text: bytes, problem: Problem) -> None:
         print("\n".join(told_lines(problem, reason.words(problem, in_words(problem)))))
 
 
+def tell_changes(program: str, changes: list[Change], seconds: Optional[float]) -> None:
+    """Says after which small changes of the puzzle there is a solution: one of these may be what is mistyped."""
+    sys.stdout.flush()
+    for line in told_changes(program, changes, seconds or CHANGE_SECONDS):
+        print(line)
+
+
 def solved(program: str, puzzle: Puzzle, given: Namespace) -> int:
     """Answers one problem and draws it; the exit status."""
     text = puzzle.text()
     problem = read_problem(text)
+    if getattr(given, "all", False) or getattr(given, "count", False):
+        return listed(program, puzzle, problem, given)
     found = asked(program, puzzle, given)
     if found.status == 1:
         if not isinstance(puzzle, Timetable):
             tell_none(program, text, problem)
+            tell_changes(program, puzzle.changes, given.seconds)
         return 1
     answer = read_audited(found.text, problem)
     picture = picture_of(problem, [problem.options[place] for _, place in answer.chosen], False)
     draw(given, planned_picture(picture, getattr(given, "plan", [])), puzzle.comments[0])
     if isinstance(puzzle, Timetable) and puzzle.school and given.keep:
         complain(kept_words(puzzle, found.text, read_plan(given.keep, puzzle.school)))
-    if not given.one and not isinstance(puzzle, Timetable) and given.out != "-":
+    if not isinstance(puzzle, Timetable) and not given.one and given.out != "-":
         sys.stdout.flush()
         print(only_words(program, problem, found.text, given.seconds))
+    return 0
+
+
+def listed(program: str, puzzle: Puzzle, problem: Problem, given: Namespace) -> int:
+    """Draws or counts all solutions of a puzzle; the exit status."""
+    if given.out:
+        stop("--out draws one solution, so it doesn't go with --all and --count")
+    tree, count, until = Tree(problem), 0, None if given.seconds is None else time.monotonic() + given.seconds
+    found = Covers(tree, lambda prefix: Asked(program, tree, prefix)).each(given.seconds)
+    try:
+        with contextlib.closing(found):
+            for count, cover in enumerate(found, 1):
+                if given.all:
+                    print("\n".join(picture_of(problem, [problem.options[place] for place in sorted(cover)], False).text()), end="\n\n", flush=True)
+                if until is not None and time.monotonic() > until:
+                    raise TimeIsUp
+    except (ProgramError, OutOfMemory) as why:
+        stop(why, 3)
+    except TimeIsUp:
+        print(f"There {'are' if count != 1 else 'is'} at least {plural(count, 'solution')}: the time was over before the end.")
+        return 0 if count else NO_ANSWER
+    if not count:
+        tell_none(program, puzzle.text(), problem)
+        tell_changes(program, puzzle.changes, given.seconds)
+        return 1
+    print(f"There {'are' if count != 1 else 'is'} {plural(count, 'solution')}.")
     return 0
 
 
@@ -191,7 +236,11 @@ def solve_kind(given: Namespace, words: list[str]) -> int:
         program = find_program()
     except NoProgram as why:
         stop(why)
-    found = generate.problems_of(given, words)
+    try:
+        found = generate.problems_of(given, words)
+    except PlainlyNone as why:
+        tell_changes(program, why.changes, given.seconds)
+        raise
     statuses = []
     for number, puzzle in enumerate(found, 1):
         own = in_parts(given, number, len(found))

@@ -70,8 +70,8 @@ class Sudoku(Kind):
         digit = self.mark_of(int(item[-width:]))
         if kind in "xy":
             return f"a {digit} on the diagonal from the {'left' if kind == 'x' else 'right'} above"
-        house = {"r": "row", "c": "column", "b": "box" if self.has_boxes() else "region", "h": "window"}[kind]
-        return f"a {digit} in {house} {int(item[1:1 + width]) + 1}"
+        house, number = {"r": "row", "c": "column", "b": "box" if self.has_boxes() else "region", "h": "window"}[kind], int(item[1:1 + width])
+        return f"a {digit} in {house} {self.region_marks[number] if house == 'region' and number < len(self.region_marks) else number + 1}"
 
     def mark_of(self, digit: int) -> str:
         """A digit as it is written here."""
@@ -120,10 +120,15 @@ class Sudoku(Kind):
         return all(regions.get(self.cell(option)) == int(option[3][1:1 + self.width]) for option in self.placing)
 
     @functools.cached_property
+    def region_marks(self) -> list[str]:
+        """The marks that a comment gives regions, in the order of their first cells."""
+        return list(dict.fromkeys(self.told("regions").replace(" ", "")))
+
+    @functools.cached_property
     def regions(self) -> dict[Cell, int]:
         """The region of each cell, -1 where nothing tells it."""
-        rows = self.told("regions").split()
-        told = {(r, c): MARKS.find(mark) for r, row in enumerate(rows) for c, mark in enumerate(row)}
+        rows, marks = self.told("regions").split(), self.region_marks
+        told = {(r, c): marks.index(mark) for r, row in enumerate(rows) for c, mark in enumerate(row)}
         if len(told) == self.size ** 2 and self.fits(told):
             return told
         if self.size in BOXES and self.fits(boxes(self.size)):

@@ -6,22 +6,24 @@ by a cell of the cage with a 3, or by the choice if the cage has no 3.
 """
 from __future__ import annotations
 
+import copy
+import functools
 import itertools
 import math
 import re
 from collections import Counter
-from collections.abc import Iterator, Sequence
+from collections.abc import Iterable, Iterator, Sequence
 from typing import NoReturn, Optional
 
 from .fault_words import plural
 from .name_texts import names_in
-from .picture_base import is_connected
-from .puzzle_texts import blocks_of, no_cover, Puzzle, read_text, refuse, TYPED
+from .picture_base import cell_words, is_connected
+from .puzzle_texts import blocks_of, Change, no_cover, Puzzle, read_text, refuse, TYPED
 from .sudoku_pictures import BOXES, MARKS
 
-# a cell by row and column; the cells and the sum of a cage; lines with their numbers; rows of marks, and the places of their lines
+# a cell by row and column; the cells and the sum of a cage, which may be any; lines with their numbers; rows of marks, and the places of their lines
 Cell = tuple[int, int]
-Cage = tuple[list[Cell], int]
+Cage = tuple[list[Cell], Optional[int]]
 Block = list[tuple[int, str]]
 Square = tuple[list[list[str]], Optional[list[int]]]
 # what an empty cell may be, beside a 0 that is no digit
@@ -42,7 +44,8 @@ class Sudoku:
     """Given digits, regions, diagonals and cages; digits are numbers from 1, and 0 is none."""
 
     def __init__(self, given: list[list[int]], regions: list[list[int]] | None = None, diagonals: bool = False, cages: Sequence[Cage] = (),
-                 symbols: str | None = None, hyper: bool = False) -> None:
+                 symbols: str | None = None, hyper: bool = False, letters: str = MARKS) -> None:
+        self.letters = letters
         self.given, self.size, self.diagonals, self.cages, self.symbols, self.hyper = given, len(given), diagonals, cages, symbols, hyper
         boxes = boxes_of(self.size, BOXES.get(self.size, (1, self.size)))
         self.has_boxes = regions is None or regions == boxes
@@ -66,14 +69,14 @@ class Sudoku:
         cage = [f"k{self.cage_of[r, c]}.{digit}"] if (r, c) in self.cage_of else []
         return ["p" + self.number(r) + self.number(c)] + [house + self.number(digit) for house in self.houses(r, c)] + cage
 
-    def twice(self) -> tuple[str, int, tuple[int, int]] | None:
-        """A house that has a digit twice, the digit, and its two rows; None where none has."""
-        seen: dict[tuple[str, int], int] = {}
+    def twice(self) -> tuple[str, int, list[Cell]] | None:
+        """A house that has a digit twice, the digit, and its two cells; None where none has."""
+        seen: dict[tuple[str, int], Cell] = {}
         for r, c in self.cells():
             for house in self.houses(r, c):
                 if self.given[r][c] and (house, self.given[r][c]) in seen:
-                    return house, self.given[r][c], (seen[house, self.given[r][c]], r)
-                seen[house, self.given[r][c]] = r
+                    return house, self.given[r][c], [seen[house, self.given[r][c]], (r, c)]
+                seen[house, self.given[r][c]] = (r, c)
         return None
 
     def cage_options(self) -> list[list[str]]:
@@ -81,7 +84,7 @@ class Sudoku:
         options = []
         for k, (cells, total) in enumerate(self.cages):
             for chosen in itertools.combinations(range(1, self.size + 1), len(cells)):
-                if sum(chosen) == total:
+                if total in (None, sum(chosen)):
                     options.append([f"k{k}"] + [f"k{k}.{digit}" for digit in range(1, self.size + 1) if digit not in chosen])
         return options
 
@@ -93,13 +96,35 @@ class Sudoku:
                  if not keep or self.given[r][c] in (0, digit)]
         options = [option for option in every if gone.isdisjoint(option)] + self.cage_options()
         items = {item for r, c in self.cells() for digit in range(1, self.size + 1) for item in self.option(r, c, digit)} - gone
-        return Puzzle(sorted(items | {f"k{k}" for k in range(len(self.cages))}), [], options, self.comments())
+        return Puzzle(sorted(items | {f"k{k}" for k in range(len(self.cages))}), [], options, self.comments(), self.changes())
+
+    def changes(self) -> list[Change]:
+        """The sudoku without each of its digits, and without the sum of each cage."""
+        return self.without_digits(self.cells()) + [Change(f"without the sum {total} of the cage that begins in {cell_words(cells[0])}", functools.partial(self.without_sum, k))
+                         for k, (cells, total) in enumerate(self.cages)]
+
+    def without_digits(self, cells: Iterable[Cell]) -> list[Change]:
+        """The sudoku without the digit of each of these cells that has one."""
+        return [Change(f"without the {self.mark(self.given[r][c])} in {cell_words((r, c))}", functools.partial(self.without, (r, c)))
+                for r, c in cells if self.given[r][c]]
+
+    def without(self, cell: Cell) -> Puzzle:
+        """The puzzle without the digit of a cell."""
+        other = copy.copy(self)
+        other.given = [[0 if (r, c) == cell else digit for c, digit in enumerate(row)] for r, row in enumerate(self.given)]
+        return other.puzzle()
+
+    def without_sum(self, number: int) -> Puzzle:
+        """The puzzle in which one cage may have any sum."""
+        other = copy.copy(self)
+        other.cages = [(cells, None if k == number else total) for k, (cells, total) in enumerate(self.cages)]
+        return other.puzzle()
 
     def comments(self) -> list[str]:
         are_words = self.size > 9 and not self.symbols
         told = ["given: " + (" / " if are_words else " ").join((" " if are_words else "").join(map(self.mark, row)) for row in self.given)]
         if not self.has_boxes:
-            told.append("regions: " + " ".join("".join(MARKS[region] for region in row) for row in self.regions))
+            told.append("regions: " + " ".join("".join(self.letters[region] for region in row) for row in self.regions))
         return told + ([f"digits: {self.symbols}"] if self.symbols else [])
 
     def mark(self, digit: int) -> str:
@@ -250,15 +275,15 @@ def checked(path: str, sudoku: Sudoku, lines: list[int] | None) -> Sudoku:
     """A sudoku that has no digit twice in a row and so on; the lines are those of its rows."""
     twice = sudoku.twice()
     if twice:
-        house, digit, rows = twice
+        house, digit, cells = twice
         kind = {"r": "row", "c": "column", "b": "box" if sudoku.has_boxes else "region", "x": "diagonal", "y": "diagonal", "h": "window"}[house[0]]
-        number = f" {int(house[1:]) + 1}" if house[1:] else ""
-        where = "" if house[0] == "r" else f", in row {rows[0] + 1} and row {rows[1] + 1}"
-        line = f", line {lines[rows[1]]}" if lines else ""
+        number = f" {sudoku.letters[int(house[1:])] if kind == 'region' else int(house[1:]) + 1}" if house[1:] else ""
+        places = [f"column {c + 1}" if kind == "row" else f"row {r + 1}" if kind == "column" else cell_words((r, c)) for r, c in cells]
+        where, line = f", in {' and '.join(places)}", f", line {lines[cells[1][0]]}" if lines else ""
         high, wide = BOXES.get(sudoku.size, (1, 1))
         if kind == "box" and high != wide:
             where += f" (boxes have {high} rows and {wide} columns here; --boxes {wide}x{high} turns them)"
-        no_cover(f"{path}{line}: {kind}{number} has the digit {sudoku.mark(digit)} twice{where}")
+        no_cover(f"{path}{line}: {kind}{number} has the digit {sudoku.mark(digit)} twice{where}", sudoku.without_digits(cells))
     return sudoku
 
 
@@ -298,9 +323,9 @@ def cells_by_letter(rows: list[str]) -> dict[str, list[Cell]]:
     return cells
 
 
-def regions_of(path: str, block: Block, size: int) -> list[list[int]]:
-    """Regions by letters, each with as many cells as the sudoku has rows; numbered in the order of their first cells. Where most of them hang
-    together, all have to: else a letter stands in a wrong place."""
+def regions_of(path: str, block: Block, size: int) -> tuple[list[list[int]], str]:
+    """Regions by letters, each with as many cells as the sudoku has rows; numbered in the order of their first cells, which is that of the letters
+    behind them. Where most of them hang together, all have to: else a letter stands in a wrong place."""
     rows = letters_of(path, block)
     if len(rows) != size:
         refuse(path, block[0][0], f"the regions have {len(rows)} rows and the digits {size}")
@@ -313,7 +338,7 @@ def regions_of(path: str, block: Block, size: int) -> list[list[int]]:
     if len(parted) <= size // 2:
         want_whole(path, block, parted, "region")
     order = list(cells)
-    return [[order.index(letter) for letter in row] for row in rows]
+    return [[order.index(letter) for letter in row] for row in rows], "".join(order)
 
 
 def text_of(block: Block) -> tuple[str, list[int]]:
@@ -332,7 +357,8 @@ def read_jigsaw(path: str, diagonals: bool = False) -> Sudoku:
         refuse(path, None, "rows of digits and dots, an empty line, and rows of letters for the regions are expected")
     blocks.sort(key=lambda block: not is_digits(block))
     digits, symbols, lines = digits_of(path, *text_of(blocks[0]))
-    return checked(path, Sudoku(digits, regions_of(path, blocks[1], len(digits)), diagonals, (), symbols), lines)
+    regions, letters = regions_of(path, blocks[1], len(digits))
+    return checked(path, Sudoku(digits, regions, diagonals, (), symbols, letters=letters), lines)
 
 
 def sums_of(path: str, block: Block) -> dict[str, int]:
@@ -368,8 +394,8 @@ def want_whole(path: str, block: Block, cells: dict[str, list[Cell]], what: str)
 
 
 def cages_of(path: str, block: Block, cells: dict[str, list[Cell]], sums: dict[str, int]) -> list[Cage]:
-    """The cages with their sums; ends the script where one can't have its sum, or all together can't."""
-    cages, size = [], len(block)
+    """The cages with their sums; ends the script where one can't have its sum."""
+    cages, size = list[Cage](), len(block)
     for letter, its_cells in cells.items():
         line, count = block[its_cells[0][0]][0], len(its_cells)
         if letter not in sums:
@@ -378,10 +404,14 @@ def cages_of(path: str, block: Block, cells: dict[str, list[Cell]], sums: dict[s
         if count > size or not least <= sums[letter] <= most:
             no_cover(f"{path}, line {line}: the cage {letter} can't have the sum {sums[letter]}: {sums_of_digits(count, size)}")
         cages.append((its_cells, sums[letter]))
-    total = sum(its_sum for _, its_sum in cages)
-    if sum(map(len, cells.values())) == size * size and total != size * size * (size + 1) // 2:
-        no_cover(f"{path}: the sums of all cages make {total}, and the digits of all cells {size * size * (size + 1) // 2}")
     return cages
+
+
+def want_total(path: str, sudoku: Sudoku, total: int) -> None:
+    """Ends the script where cages have all cells, and their sums make something else than all digits do."""
+    digits = sudoku.size * sudoku.size * (sudoku.size + 1) // 2
+    if len(sudoku.cage_of) == sudoku.size * sudoku.size and total != digits:
+        no_cover(f"{path}: the sums of all cages make {total}, and the digits of all cells {digits}", sudoku.changes())
 
 
 def read_killer(path: str, diagonals: bool = False, box: Cell | None = None) -> Sudoku:
@@ -402,4 +432,6 @@ def read_killer(path: str, diagonals: bool = False, box: Cell | None = None) -> 
         if letter not in cells:
             refuse(path, blocks[1][0][0], f"there is no cage {letter}")
     want_whole(path, blocks[0], cells, "cage")
-    return checked(path, Sudoku(digits, regions_by_boxes(path, size, box), diagonals, cages_of(path, blocks[0], cells, sums)), lines)
+    sudoku = Sudoku(digits, regions_by_boxes(path, size, box), diagonals, cages_of(path, blocks[0], cells, sums))
+    want_total(path, sudoku, sum(sums.values()))
+    return checked(path, sudoku, lines)

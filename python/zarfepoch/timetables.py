@@ -383,7 +383,8 @@ class Problem:
         ranked.sort(key=lambda one: one.rank)
         options = [one.option for one in ranked]
         primary, secondary = self.sorted_items(options)
-        return Timetable(primary, secondary, options, self.told(), ranked, {lesson.name: lesson for lesson in self.lessons}, self.school)
+        lessons = {lesson.name: lesson for lesson in self.lessons}
+        return Timetable(primary, secondary, options, self.told(), ranked=ranked, lessons=lessons, school=self.school)
 
     def sorted_items(self, options: list[list[str]]) -> tuple[list[str], list[str]]:
         """The primary items, those that are busy in any case first, since the search takes the first of equals; and the secondary ones."""
@@ -481,5 +482,5 @@ def needed_items(puzzle: Puzzle) -> int:
 def note_size(puzzle: Puzzle) -> None:
     """Tells where a problem is near what the program reads."""
     if needed_items(puzzle) > NEAR * MAX_ITEMS:
-        complain(f"note: this timetable needs {needed_items(puzzle):,} items, and the program reads at most {MAX_ITEMS:,}")
+        complain(f"this timetable fits, with {needed_items(puzzle):,} of at most {MAX_ITEMS:,} items")
 
