@@ -4,10 +4,10 @@
     python3 scripts/try_certificates.py [COUNT]
 
 A plain search in this script writes them: by cases, with kept cases, jumps, dropped cases and reasons where these are found, and by clauses, one for
-each case, some of which are forgotten. A third one is written by the program's own search. Of so many random problems without a cover (default 300) both
-checkers have to accept all three. In copies some lines or words are changed: both have to say the same of it, and to name the same line. Of as many
-problems with a cover all that is tried has to be refused: certificates of the problem without an option of the cover, with the counts of the whole one,
-and copies of them in which lines or words are changed. Whether there is a cover says the search of `plain_search.py`.
+each case, some of which are forgotten. Two more are written by the program, by `alone` and by `answer`. Of so many random problems without a cover
+(default 300) both checkers have to accept all four. In copies some lines or words are changed: both have to say the same of it, and to name the same
+line. Of as many problems with a cover all that is tried has to be refused: certificates of the problem without an option of the cover, with the
+counts of the whole one, and copies of them in which lines or words are changed. Whether there is a cover says the search of `plain_search.py`.
 
 It wants the programs check_certificate and solve_cli: (cd crates/check_certificate && rt run) and (cd crates/solve_cli && rt run -- --version) build
 them. The last line is 'N passed, M failed'. The exit status is 0 where all passed, 1 where something failed, 2 for a mistake on the command line or where
@@ -142,12 +142,12 @@ def certificates(draw: random.Random, text: str) -> list[list[str]]:
     return [["none", f"cases {len(names)} {len(options)}", *cases.lines], ["none", f"clauses {len(names)} {len(options)}", *clauses.lines]]
 
 
-def searched(folder: str, text: str) -> tuple[list[str], tuple[bytes, bytes, int]]:
-    """The lines of the certificate that the program's own search writes, if it writes any, and what the run comes to."""
+def searched(folder: str, text: str, *words: str) -> tuple[list[str], tuple[bytes, bytes, int]]:
+    """The lines of the certificate that the program's own search writes, or with a word another command's, if any, and what the run comes to."""
     file, path = (os.path.join(folder, name) for name in ("searched", "written"))
     with open(file, "w", encoding="ascii") as opened:
         opened.write(text)
-    ran = subprocess.run([SOLVE_CLI, "alone", file, "--unlimited", "--certificate", path], capture_output=True)
+    ran = subprocess.run([SOLVE_CLI, *(words or ("alone", "--unlimited")), file, "--certificate", path], capture_output=True)
     lines = []
     if os.path.exists(path):
         with open(path, encoding="ascii") as opened:
@@ -241,9 +241,13 @@ def random_text(draw: random.Random) -> str:
 
 
 def try_without_cover(folder: str, draw: random.Random, text: str) -> None:
-    lines, came = searched(folder, text)
-    expect(f"a search writes a certificate, not {came}, of\n{text}", came[0] == b"none\n" and came[2] == 1 and came[1].endswith(b"certificate right: FILE\n"))
-    for lines in [lines, *certificates(draw, text)]:
+    written = []
+    for words in (), ("answer",):
+        lines, came = searched(folder, text, *words)
+        is_right = came[0] == b"none\n" and came[2] == 1 and came[1].endswith(b"certificate right: FILE\n")
+        expect(f"a search writes a certificate, not {came}, of\n{text}", is_right)
+        written.append(lines)
+    for lines in [*written, *certificates(draw, text)]:
         expect(f"the certificate of\n{text}" + "\n".join(lines), by_script(text, lines) == by_program(folder, text, lines) == "right")
         other = changed(draw, lines)
         said = by_script(text, other), by_program(folder, text, other)
@@ -252,7 +256,7 @@ def try_without_cover(folder: str, draw: random.Random, text: str) -> None:
 
 def try_with_cover(folder: str, draw: random.Random, text: str) -> None:
     """Certificates of the problem without the options of its covers, one after the other, with the counts of the whole one."""
-    lines, came = searched(folder, text)
+    lines, came = searched(folder, text, *draw.choice(((), ("answer",))))
     expect(f"a cover has no certificate: {came}, {lines}, of\n{text}", came[2] == 0 and not lines and b"certificate" not in came[1])
     head, *options = text.splitlines()
     rest = text

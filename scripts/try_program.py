@@ -116,6 +116,7 @@ def certificates(folder: str) -> None:
     for words, expected in CERTIFYING.items():
         for name in ("letters.dlx", "langford-5.dlx", "tetrominoes-4x5.dlx"):
             certified(folder, name, words, expected)
+    answered_certificates(os.path.join(folder, "answered"))
     board = os.path.join(TOP, "examples", "mutilated-chessboard.dlx")
     path = os.path.join(folder, "why.certificate")
     reason = run("why", board)[0]
@@ -137,6 +138,27 @@ def certificates(folder: str) -> None:
     uncreated_certificates(os.path.join(folder, "uncreated"))
     killed_certificate(os.path.join(folder, "killed"))
     piped_certificates(os.path.join(folder, "piped"))
+
+
+def answered_certificates(folder: str) -> None:
+    """`answer` keeps the certificate of whichever of its lanes is first, and nothing of the other."""
+    os.mkdir(folder)
+    path = os.path.join(folder, "out")
+    right = f"certificate right: {path}\n".encode()
+    # (within a tenth of a second the search decides; of the boards there is a reason, and pigeons without one are sooner learned than searched)
+    for file, words in ((os.path.join(TOP, "examples", "langford-5.dlx"), b"cases"), (board(folder, 18), b"cases")):
+        expect(f"{file} answered and certified", run("answer", file, "--certificate", path) == (b"none\n", right, 1))
+        expect(f"{file} by its lines", content(path).split(b"\n")[1].startswith(words) and run("check", file, path) == (b"right\n", b"", 0))
+    out, errors, status = run("answer", board(folder, 18), "--certificate", path, "--reason", "--progress")
+    expect("a reason beside a certificate", (out, status) == (run("why", board(folder, 18))[0], 1) and errors.endswith(b"answered by a reason\n" + right))
+    letters = os.path.join(TOP, "examples", "letters.dlx")
+    expect("a cover has no certificate", is_exact(letters, run("answer", letters, "--certificate", path)[0]) and content(path).startswith(b"none\n"))
+    late = run("answer", search_of_years(folder), "--seconds", "1", "--certificate", path)
+    expect("no answer, no certificate", late == (b"no answer\n", b"ended: the time is over: try more --seconds, or solve\n", 4))
+    expect("no part of either is left", sorted(os.listdir(folder)) == ["dominoes-18.dlx", "long", "out"] and content(path).startswith(b"none\n"))
+    for device in "/dev/full", "/dev/stdout":
+        said = run("answer", letters, "--certificate", device)
+        expect(f"two certificates to {device}", said[0] == b"" and said[1].startswith(f"cannot create: {device}: answer writes".encode()) and said[2] == 3)
 
 
 def content(path: str) -> bytes:

@@ -13,7 +13,7 @@ a thread whose growth is refused at its start is one that can't be started, and 
 `answer` is run with no, one and two further threads, and with each growth refused, and all from each on, in as many runs: it ends with the answer, since
 its search needs no further thread, or where memory was refused with status 5. So is `learn`.
 
-Then `alone` and `learn` write a certificate of a problem without a cover, with each growth refused. Their answer is `none` or, with status 5,
+Then `answer`, `alone` and `learn` write a certificate of a problem without a cover, with each growth refused. Their answer is `none` or, with status 5,
 nothing; `certificate right` is said of a file just if there is one that `check` calls right; and no part of a certificate is left beside it.
 
 Then the address space of `answer` and `learn` is limited, down to what the program begins with: there is no room for the stack of a further thread.
@@ -50,7 +50,7 @@ ALONE = ("--nodes", "1", "--workers", "1")
 USUAL: Sequence[str] = ()
 WITH_REASON = ("--reason",)
 # which commands write certificates
-CERTIFYING = (("alone", "--unlimited"), ("learn",))
+CERTIFYING = (("answer",), ("alone", "--unlimited"), ("learn",))
 # the address space in megabytes that `answer` and `learn` are left
 SPACES = (12, 16, 24, 32, 48, 64, 96, 128, 256)
 FEW = 25

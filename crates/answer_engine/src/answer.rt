@@ -43,14 +43,14 @@ pub struct Task<'a, R: Threads + Wait + Clock + Sync> {
 
 /// What each lane has found.
 #[derive(Drop)]
-struct Found {
-    searched: Result<Option<Won>, AllocError>,
-    learned: Result<Option<Won>, AllocError>,
-    ran: Option<Won>,
+pub(crate) struct Found {
+    pub(crate) searched: Result<Option<Won>, AllocError>,
+    pub(crate) learned: Result<Option<Won>, AllocError>,
+    pub(crate) ran: Option<Won>,
 }
 
 /// An answer of a lane that has one. The only error is out of memory, where none has one.
-fn first_of(_problem: &Problem, found: Found) -> Result<Option<Won>, AllocError>
+pub(crate) fn first_of(_problem: &Problem, found: Found) -> Result<Option<Won>, AllocError>
     requires searched { IfOk found.searched (λ won. IfSome won (IsWonOf _problem.now)) }
     requires learned { IfOk found.learned (λ won. IfSome won (IsWonOf _problem.now)) }
     requires ran { IfSome found.ran (IsWonOf _problem.now) }
@@ -122,7 +122,7 @@ fn raced<V: EndWatch, R: Threads + Wait + Clock + Sync>(
     // (the first closure may run in another thread, and the log of the search belongs to this one)
     let (learned, (ran, searched)) = join(
         rt,
-        || learner_lane(rt, alloc, problem, &mut learning),
+        || learner_lane(rt, alloc, problem, &race, &mut learning),
         || run_and_search(task, problem, &race, watch),
     );
     first_of(
@@ -145,6 +145,21 @@ fn decided<V: EndWatch, R: Threads + Wait + Clock + Sync>(
     ensures decides { task.now.time ≡ None → IfOk result (λ found. found ≢ None) }
 {
     let found = raced(task, problem, watch)?;
+    settled(task, problem, watch, found)
+}
+
+/// Returns what the lanes found, of which the watch hears, or else the answer of a search alone, unless the time is limited. The only error is
+/// out of memory.
+pub(crate) fn settled<V: EndWatch, R: Threads + Wait + Clock + Sync>(
+    task: &Task<'_, R>,
+    problem: &Problem,
+    watch: &mut V,
+    found: Option<Won>,
+) -> Result<Option<Won>, AllocError>
+    requires { IfSome found (IsWonOf problem.now) }
+    ensures right { IfOk result (λ found. IfSome found (IsWonOf problem.now)) }
+    ensures decides { task.now.time ≡ None → IfOk result (λ found. found ≢ None) }
+{
     watch.end();
     if let Some(won) = found {
         watch.tell(won.basis.line());

@@ -40,6 +40,11 @@ impl Basis {
             Basis::Run(_) => "answered by workers",
         }
     }
+
+    /// Returns whether it is a learner.
+    pub(crate) fn is_learning(&self) -> bool {
+        matches!(self, Basis::Learning(_))
+    }
 }
 
 /// What is counted, in the singular or the plural.

@@ -10,7 +10,7 @@ use crate::race_watches::{LaneWatch, SearchWatch};
 use brancher::Unwatched;
 use cover_problem::{Answer, Problem};
 use cover_reasons::ReasonWatch;
-use learner::{Found, Settings, find_cover};
+use learner::{Found, LearnerWatch, Settings, find_cover};
 use memory_run::run_in_memory;
 use reason_engine::find_cause_until;
 use search_engines::{EndWatch, search_until};
@@ -39,7 +39,7 @@ fn searched<V: EndWatch, C: Clock>(
 }
 
 /// The same within the time that a search has before a reason is looked for.
-fn searched_shortly<C: Clock>(
+pub(crate) fn searched_shortly<C: Clock>(
     clock: &C,
     race: &Race,
     alloc: Global,
@@ -126,10 +126,10 @@ fn answer_of(problem: &Problem, found: Found) -> Option<Answer>
 
 /// Looks for a cover by learning. The only error is out of memory.
 #[tactic(auto, using(crate::proofs::Firsts::right_is_won))]
-fn learned<C: Clock>(
+fn learned<L: LearnerWatch>(
     alloc: Global,
     problem: &Problem,
-    watch: &mut LaneWatch<'_, '_, C>,
+    watch: &mut L,
 ) -> Result<Option<Won>, AllocError>
     ensures { IfOk result (λ found. IfSome found (IsWonOf problem.now)) }
 {
@@ -146,15 +146,15 @@ fn learned<C: Clock>(
 
 /// The lane of the learner, which begins a tenth of a second after the search. Where its clauses have no room left it ends without an
 /// answer. The only error is out of memory.
-pub(crate) fn learner_lane<R: Wait + Clock>(
+pub(crate) fn learner_lane<R: Wait, L: LearnerWatch>(
     rt: &R,
     alloc: Global,
     problem: &Problem,
-    watch: &mut LaneWatch<'_, '_, R>,
+    race: &Race,
+    watch: &mut L,
 ) -> Result<Option<Won>, AllocError>
     ensures { IfOk result (λ found. IfSome found (IsWonOf problem.now)) }
 {
-    let race = watch.race;
     if !race.begins_learning(rt) {
         return Ok(None);
     }

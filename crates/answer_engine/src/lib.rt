@@ -3,6 +3,8 @@
 
 mod answer;
 mod basis;
+mod heard_answer;
+mod heard_lanes;
 mod lanes;
 mod race;
 mod race_watches;
@@ -10,3 +12,4 @@ mod telling;
 
 pub use answer::{AnswerEnd, Task, answer_engine};
 pub use basis::{Basis, Won};
+pub use heard_answer::{Listeners, write_heard_answer};

@@ -3,6 +3,7 @@
 use crate::race::Race;
 use brancher::Watch;
 use cover_reasons::ReasonWatch;
+use implied_clauses::{Hint, Literal};
 use learner::{Figures, LearnerWatch};
 use search_engines::{EndWatch, TimeLimit};
 use std::time::Clock;
@@ -32,6 +33,29 @@ impl<'a, 'b, C: Clock> ReasonWatch for LaneWatch<'a, 'b, C> {
 impl<'a, 'b, C: Clock> LearnerWatch for LaneWatch<'a, 'b, C> {
     fn look(&mut self, _figures: &Figures) -> bool {
         is_over(self.clock, self.race, &self.time)
+    }
+}
+
+/// Stops a learner once the race is over, or the time, and lets another watch hear of its clauses.
+#[derive(Drop)]
+pub(crate) struct HeardWatch<'a, 'b, 'c, C: Clock, L: LearnerWatch> {
+    pub(crate) clock: &'a C,
+    pub(crate) race: &'b Race,
+    pub(crate) time: Option<TimeLimit>,
+    pub(crate) listener: &'c mut L,
+}
+
+impl<'a, 'b, 'c, C: Clock, L: LearnerWatch> LearnerWatch for HeardWatch<'a, 'b, 'c, C, L> {
+    fn look(&mut self, _figures: &Figures) -> bool {
+        is_over(self.clock, self.race, &self.time)
+    }
+
+    fn learned(&mut self, place: u32, clause: &[Literal], hints: &[Hint]) {
+        self.listener.learned(place, clause, hints);
+    }
+
+    fn forgot(&mut self, place: u32) {
+        self.listener.forgot(place);
     }
 }
 

@@ -61,11 +61,11 @@ check_app =
 abbrev pub reasoned : App → App
 reasoned app = with_rule app (flag_rule (codes "reason"))
 
--- to which file an answer is looked for, whether it writes how far that has come, by how many threads, when it ends, and whether it says what
--- the answer rests on
+-- to which file an answer is looked for, whether it writes how far that has come, by how many threads, when it ends, whether it says what the
+-- answer rests on, and where a certificate goes
 abbrev pub answer_app : App
 answer_app =
-    reasoned (timed (with_rule (with_rule (with_rule (versioned (new_app (codes "answer"))) (file_rule (codes "file"))) (flag_rule (codes "progress"))) (limit_rule (codes "threads"))))
+    certified (reasoned (timed (with_rule (with_rule (with_rule (versioned (new_app (codes "answer"))) (file_rule (codes "file"))) (flag_rule (codes "progress"))) (limit_rule (codes "threads")))))
 
 -- of which file a reason is looked for, and where a certificate goes
 abbrev pub why_app : App

@@ -151,7 +151,7 @@ fn certificate_argument<'a>(alloc: Global) -> Arg<'a>
     limit_argument(
         alloc,
         "certificate",
-        "Where there is no cover, writes lines by which anybody can check that to this file; check tests them. With alone only beside --unlimited",
+        "Where there is no cover, writes lines by which anybody can check that to this file; check tests them. With alone only beside --unlimited; answer begins no workers then",
     )
 }
 
@@ -200,7 +200,7 @@ fn answer_command<'a>(alloc: Global) -> Result<Command<'a>, AllocError>
     let command = with_two(command, file_argument(alloc), progress_argument(alloc))?;
     let threads = limit_argument(alloc, "threads", THREADS_HELP);
     let command = with_two(command, threads, time_argument(alloc))?;
-    command.arg(reason_argument(alloc))
+    with_two(command, reason_argument(alloc), certificate_argument(alloc))
 }
 
 fn why_command<'a>(alloc: Global) -> Result<Command<'a>, AllocError>

@@ -41,6 +41,11 @@ impl CertificatePlace {
         }
     }
 
+    /// Returns whether it is a device or a pipe, to which nobody can write two certificates at once.
+    pub(crate) fn is_device(&self) -> bool {
+        self.part.is_none()
+    }
+
     /// Reads back a certificate that was written here of a problem without a cover, and returns what became of it.
     pub(crate) fn test(&self, rt: &HostRuntime, problem: &Problem) -> CertificateFate {
         let Some(part) = &self.part else {

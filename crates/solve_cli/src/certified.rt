@@ -3,10 +3,12 @@
 ghost use Rattle.std.specs.Prelude.{◌≡◌, false};
 
 use crate::certificate_place::CertificatePlace;
+use crate::certified_answer::certify_answer;
 use crate::{learner_settings, limits_of, line_style, open, unanswered, why_unlearned};
 use certificate_writer::{CaseWriter, CertificateFate, CertifyingWatch, ClauseWriter};
 use cover_engines::{
-    EngineEnd, EngineFault, ProgressLog, SearchLimits, tell_end_of, tell_unanswered, tell_unopened,
+    EngineEnd, EngineFault, ProgressLog, SearchLimits, Unanswered, tell_end_of, tell_unanswered,
+    tell_unopened,
 };
 use cover_problem::Problem;
 use dlx_reader::{CountedWriter, Read, Sink};
@@ -18,6 +20,9 @@ use search_engines::{
     write_certified_within,
 };
 use std::fs::File;
+use std::sync::Wait;
+use std::thread::Threads;
+use std::time::Clock;
 
 /// How a run ended that wrote a certificate beside its answer.
 #[derive(Drop)]
@@ -41,8 +46,22 @@ impl CertifiedEnd {
     }
 }
 
-/// Runs `alone`, `why` or `learn` on a file, writes a certificate where there is no cover, and returns the exit status.
-pub(crate) fn run_certified(rt: &HostRuntime, request: &Request<'_>, name: &str) -> u8 {
+/// What is asked for, of which problem, and which file is to get a certificate.
+#[derive(Clone, Copy)]
+pub(crate) struct Asked<'a, 'b> {
+    pub(crate) request: &'a Request<'b>,
+    pub(crate) limits: &'a SearchLimits,
+    pub(crate) read: &'a Read,
+    pub(crate) name: &'a str,
+}
+
+/// Runs `answer`, `alone`, `why` or `learn` on a file, writes a certificate where there is no cover, and returns the exit status.
+pub(crate) fn run_certified<R: Threads + Wait + Clock + Sync>(
+    rt: &HostRuntime,
+    threads: &R,
+    request: &Request<'_>,
+    name: &str,
+) -> u8 {
     let mut errors = CountedWriter::new(rt.stderr());
     // (the time counts from here, so opening and reading the file is part of it)
     let limits = limits_of(rt, request);
@@ -51,7 +70,15 @@ pub(crate) fn run_certified(rt: &HostRuntime, request: &Request<'_>, name: &str)
         Err(error) => return tell_unopened(request.settings.file, error.kind(), &mut errors),
     };
     match read_whole(rt.alloc(), &mut source) {
-        Ok(read) => certify(rt, request, &limits, &read, name, &mut errors),
+        Ok(read) => {
+            let asked = Asked {
+                request,
+                limits: &limits,
+                read: &read,
+                name,
+            };
+            run_asked(rt, threads, &asked, &mut errors)
+        }
         Err(fault) => {
             let status = tell_fault_of(&fault, request.settings.file, &mut errors);
             source.tell_unknown(status, &mut errors);
@@ -60,55 +87,90 @@ pub(crate) fn run_certified(rt: &HostRuntime, request: &Request<'_>, name: &str)
     }
 }
 
-/// Writes the answer to a problem and a certificate, and returns the exit status. Only a certificate that is right stays.
-fn certify<E: Sink>(
+/// Does that of a problem that was read.
+fn run_asked<E: Sink, R: Threads + Wait + Clock + Sync>(
     rt: &HostRuntime,
-    request: &Request<'_>,
-    limits: &SearchLimits,
-    read: &Read,
-    name: &str,
+    threads: &R,
+    asked: &Asked<'_, '_>,
     errors: &mut E,
 ) -> u8 {
-    let settings = &request.settings;
-    let (place, lines) = match CertificatePlace::create(rt, settings.file, name) {
+    match asked.request.settings.mode {
+        Mode::Answer => certify_answer(rt, threads, asked, errors),
+        Mode::Alone | Mode::Check | Mode::Why | Mode::Learn | Mode::Simulate | Mode::Solve => {
+            certify(rt, asked, errors)
+        }
+    }
+}
+
+/// Writes the answer to a problem and a certificate, and returns the exit status. Only a certificate that is right stays.
+fn certify<E: Sink>(rt: &HostRuntime, asked: &Asked<'_, '_>, errors: &mut E) -> u8 {
+    let file = asked.request.settings.file;
+    let (place, lines) = match CertificatePlace::create(rt, file, asked.name) {
         Ok(made) => made,
-        Err(fate) => return fate.tell(name, 3, errors),
+        Err(fate) => return fate.tell(asked.name, 3, errors),
     };
+    let problem = &asked.read.problem;
     let CertifiedEnd {
         status,
         is_whole,
         is_begun,
-    } = run_into(rt, request, limits, &read.problem, lines, errors);
+    } = run_into(rt, asked.request, asked.limits, problem, lines, errors);
+    let status = tell_status(rt, asked, status, errors);
+    let fate = if status == 1 && !is_begun {
+        CertificateFate::Unsayable
+    } else {
+        fate_of(rt, problem, &place, status, is_whole)
+    };
+    place.end(rt, fate).tell(asked.name, status, errors)
+}
+
+/// Reads a certificate back, if the status of the answer wants one and all of it was written, and returns what became of it.
+pub(crate) fn fate_of(
+    rt: &HostRuntime,
+    problem: &Problem,
+    place: &CertificatePlace,
+    status: u8,
+    is_whole: bool,
+) -> CertificateFate {
+    match status {
+        1 if !is_whole => CertificateFate::Unwritten,
+        1 => place.test(rt, problem),
+        _ => CertificateFate::Unneeded,
+    }
+}
+
+/// Writes how a run ended, and why it has no answer, if it has none, and returns the exit status.
+pub(crate) fn tell_status<E: Sink>(
+    rt: &HostRuntime,
+    asked: &Asked<'_, '_>,
+    status: Result<u8, EngineFault>,
+    errors: &mut E,
+) -> u8 {
     let ended = match status {
         Ok(status) => Ok(EngineEnd {
             status,
-            ignored: read.ignored,
+            ignored: asked.read.ignored,
         }),
         Err(fault) => Err(fault),
     };
-    let status = tell_end_of(&ended, settings.file, errors);
-    tell_why(rt, request, limits, &ended, errors);
-    let fate = match status {
-        1 if !is_begun => CertificateFate::Unsayable,
-        1 if !is_whole => CertificateFate::Unwritten,
-        1 => place.test(rt, &read.problem),
-        _ => CertificateFate::Unneeded,
-    };
-    place.end(rt, fate).tell(name, status, errors)
+    let status = tell_end_of(&ended, asked.request.settings.file, errors);
+    tell_why(rt, asked, &ended, errors);
+    status
 }
 
 /// Writes why there is no answer, if there is none. `why` has no limit that could be met.
 fn tell_why<E: Sink>(
     rt: &HostRuntime,
-    request: &Request<'_>,
-    limits: &SearchLimits,
+    asked: &Asked<'_, '_>,
     ended: &Result<EngineEnd, EngineFault>,
     errors: &mut E,
 ) {
-    match request.settings.mode {
+    let limits = asked.limits;
+    match asked.request.settings.mode {
+        Mode::Answer => tell_unanswered(ended, Unanswered::Time, errors),
         Mode::Learn => tell_unanswered(ended, why_unlearned(rt, limits), errors),
-        Mode::Alone => tell_unanswered(ended, unanswered(rt, request, limits), errors),
-        Mode::Answer | Mode::Check | Mode::Why | Mode::Simulate | Mode::Solve => {}
+        Mode::Alone => tell_unanswered(ended, unanswered(rt, asked.request, limits), errors),
+        Mode::Check | Mode::Why | Mode::Simulate | Mode::Solve => {}
     }
 }
 

@@ -3,6 +3,7 @@
 
 mod certificate_place;
 mod certified;
+mod certified_answer;
 
 ghost use Rattle.std.specs.Prelude.{◌≡◌, IfOk};
 
@@ -340,7 +341,7 @@ fn run_request<R: Threads + Wait + Clock + Net + Sync>(
 ) -> u8 {
     let settings = &request.settings;
     if let Some(name) = request.certificate {
-        return run_certified(rt, request, name);
+        return run_certified(rt, threads, request, name);
     }
     match settings.mode {
         Mode::Answer => run_answer(rt, threads, request),

@@ -248,7 +248,7 @@ fn reads_whether_to_say_what_an_answer_rests_on(rt: HostRuntime) {
 }
 
 /// Words that name a file for a certificate, or don't.
-static CERTIFICATES: [(&[&str], Option<&str>); 8] = [
+static CERTIFICATES: [(&[&str], Option<&str>); 10] = [
     (&["solve_cli", "learn", "a.dlx"], None),
     (
         &["solve_cli", "learn", "a.dlx", "--certificate", "b"],
@@ -279,6 +279,11 @@ static CERTIFICATES: [(&[&str], Option<&str>); 8] = [
         &["solve_cli", "why", "a.dlx", "--certificate", "b"],
         Some("b"),
     ),
+    (
+        &["solve_cli", "answer", "a.dlx", "--certificate", "b"],
+        Some("b"),
+    ),
+    (&["solve_cli", "answer", "a.dlx", "--reason"], None),
 ];
 
 #[test]

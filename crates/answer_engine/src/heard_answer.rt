@@ -1,0 +1,142 @@
+//! An answer by a search or a learner, whichever is first, and what shows that there is no cover, for whoever is to write that down.
+
+ghost use Rattle.std.specs.Prelude.{◌≡◌, ◌≢◌, ◌-◌, ◌<◌, ◌^◌, None, IfOk, IfSome};
+ghost use Rattle.answer_engine.specs.Answers.{AnswerSays, IsWonOf};
+ghost use Rattle.search_engines.specs.Output.{IsOutputOf};
+
+use crate::answer::{Found, Task, first_of, settled};
+use crate::basis::Won;
+use crate::heard_lanes::heard_search_lane;
+use crate::lanes::learner_lane;
+use crate::race::Race;
+use crate::race_watches::{HeardWatch, SearchWatch};
+use crate::telling::write_told;
+use cover_problem::Problem;
+use decider::Trace;
+use dlx_reader::Sink;
+use learner::LearnerWatch;
+use search_engines::{EndWatch, EngineFault, ProgressLog, ProgressWatch, ReasonListener};
+use std::alloc::AllocError;
+use std::sync::Wait;
+use std::thread::{Threads, join};
+use std::time::Clock;
+
+/// What hears of the search and of the learner, so that each can be written down. No contract speaks of it.
+#[derive(Drop)]
+pub struct Listeners<T: Trace + ReasonListener + Drop, L: LearnerWatch + Drop> {
+    /// What hears of the search, and of a reason by which it ends.
+    pub search: T,
+    /// What hears of the learner's clauses. It isn't asked whether the learner is to stop.
+    pub learner: L,
+    /// Whether the learner found the answer, once there is one.
+    pub is_learned: bool,
+}
+
+/// Lets the search and the learner look for an answer until one of them has it or the time is over. The only error is out of memory.
+fn raced_aloud<
+    V: EndWatch,
+    T: Trace + ReasonListener + Drop,
+    L: LearnerWatch + Drop + Send,
+    R: Threads + Wait + Clock + Sync,
+>(
+    task: &Task<'_, R>,
+    problem: &Problem,
+    watch: &mut V,
+    listeners: &mut Listeners<T, L>,
+) -> Result<Option<Won>, AllocError>
+    ensures { IfOk result (λ found. IfSome found (IsWonOf problem.now)) }
+{
+    let (rt, alloc) = (task.rt, task.alloc);
+    let race = Race::new();
+    let mut learning = HeardWatch {
+        clock: rt,
+        race: &race,
+        time: task.time,
+        listener: &mut listeners.learner,
+    };
+    let mut search = SearchWatch {
+        clock: rt,
+        race: &race,
+        time: task.time,
+        inner: watch,
+        states: 0,
+    };
+    let hears_search = &mut listeners.search;
+    // (the first closure may run in another thread, and the log of the search belongs to this one)
+    let (learned, searched) = join(
+        rt,
+        || learner_lane(rt, alloc, problem, &race, &mut learning),
+        || heard_search_lane(alloc, problem, &mut search, hears_search),
+    );
+    let ran = None;
+    first_of(
+        problem,
+        Found {
+            searched,
+            learned,
+            ran,
+        },
+    )
+}
+
+/// Returns an answer; none only where the time is limited, and over. The watch and the listeners hear what found it. The only error is out of
+/// memory.
+fn decided_aloud<
+    V: EndWatch,
+    T: Trace + ReasonListener + Drop,
+    L: LearnerWatch + Drop + Send,
+    R: Threads + Wait + Clock + Sync,
+>(
+    task: &Task<'_, R>,
+    problem: &Problem,
+    watch: &mut V,
+    listeners: &mut Listeners<T, L>,
+) -> Result<Option<Won>, AllocError>
+    ensures right { IfOk result (λ found. IfSome found (IsWonOf problem.now)) }
+    ensures decides { task.now.time ≡ None → IfOk result (λ found. found ≢ None) }
+{
+    let found = raced_aloud(task, problem, watch, listeners)?;
+    if let Some(won) = &found {
+        listeners.is_learned = won.basis.is_learning();
+    }
+    settled(task, problem, watch, found)
+}
+
+/// Writes an exact cover of a problem, with the options in the order of the file, or `none`, whichever of two lanes finds it first: a search that
+/// keeps states and looks for a reason, or a learner, which begins a tenth of a second later. A run in memory isn't begun: nobody could write down
+/// what shows that it found no cover. Where the time is limited it may write `no answer`. If that is asked for, what the answer rests on is written
+/// behind it. How far the search has come, and which lane was first, goes to the log.
+///
+/// The listeners hear of both lanes, of the one that isn't first, too.
+///
+/// # Errors
+///
+/// `Write` where the sink failed, after a beginning of the text, and `Memory`, before any of it.
+pub fn write_heard_answer<
+    'a,
+    T: Trace + ReasonListener + Drop,
+    L: LearnerWatch + Drop + Send,
+    W: Sink,
+    E: Sink,
+    R: Threads + Wait + Clock + Sync,
+>(
+    task: &Task<'a, R>,
+    problem: &'a Problem,
+    listeners: &mut Listeners<T, L>,
+    sink: &mut W,
+    log: ProgressLog<'a, E>,
+) -> Result<u8, EngineFault>
+    requires { W.failed sink.old < 2 ^ 64 - 1 }
+    ensures output { IsOutputOf (AnswerSays task.now.reason task.now.time problem.now)
+        (W.contents sink.old) (W.contents sink.new) result }
+    ensures failed { result ≡ Err EngineFault.Write → W.failed sink.old < W.failed sink.new }
+{
+    let made = ProgressWatch::new(task.rt, task.alloc, problem, u64::MAX, log);
+    let Ok(mut watch) = made else {
+        return Err(EngineFault::Memory);
+    };
+    match decided_aloud(task, problem, &mut watch, listeners) {
+        Ok(won) => write_told(task.alloc, problem, won.as_ref(), task.reason, sink),
+        Err(_) => Err(EngineFault::Memory),
+    }
+}

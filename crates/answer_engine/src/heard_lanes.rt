@@ -1,0 +1,107 @@
+//! The lane of a search that something hears of, so that it can be written down why there is no cover.
+
+ghost use Rattle.std.specs.Prelude.{IfOk, IfSome};
+ghost use Rattle.answer_engine.specs.Answers.{IsWonOf};
+
+use crate::basis::{Basis, Won};
+use crate::lanes::searched_shortly;
+use crate::race_watches::SearchWatch;
+use cover_problem::{Answer, Problem};
+use cover_reasons::{ReasonWatch, find_reason_until};
+use decider::Trace;
+use reason_engine::Cause;
+use search_engines::{EndWatch, ReasonListener, certified_until};
+use std::alloc::{AllocError, Global};
+use std::time::Clock;
+
+/// Returns whether it is a cover.
+fn is_cover(found: &Option<Won>) -> bool {
+    match found {
+        Some(won) => matches!(won.answer, Answer::Cover(_)),
+        None => false,
+    }
+}
+
+/// The answer of the search that keeps states, and that the listener hears of. The only error is out of memory.
+#[tactic(auto, using(crate::proofs::Firsts::search_is_won))]
+fn searched_aloud<V: EndWatch, T: Trace + ReasonListener, C: Clock>(
+    alloc: Global,
+    problem: &Problem,
+    watch: &mut SearchWatch<'_, '_, '_, V, C>,
+    listener: &mut T,
+) -> Result<Option<Won>, AllocError>
+    ensures { IfOk result (λ found. IfSome found (IsWonOf problem.now)) }
+{
+    match certified_until(watch.clock, alloc, problem, watch, listener)? {
+        Some(answer) => {
+            let basis = Basis::Search(watch.states);
+            Ok(Some(Won { answer, basis }))
+        }
+        None => Ok(None),
+    }
+}
+
+/// That there is no cover, where a reason of the problem as it stands is found before the watch ends that: no line of a certificate says any
+/// other. The listener hears of it. Where memory runs out none is found, and that is no error.
+#[tactic(auto, using(crate::proofs::Firsts::cause_is_won))]
+fn excluded_aloud<W: ReasonWatch, T: ReasonListener>(
+    alloc: Global,
+    problem: &Problem,
+    watch: &mut W,
+    listener: &mut T,
+) -> Option<Won>
+    ensures { IfSome result (IsWonOf problem.now) }
+{
+    match find_reason_until(alloc, problem, watch) {
+        Ok(Some(reason)) => {
+            listener.hears(&reason);
+            Some(Won {
+                answer: Answer::NoCover,
+                basis: Basis::Reason(Cause::AsItStands(reason)),
+            })
+        }
+        Ok(None) | Err(_) => None,
+    }
+}
+
+/// The answer of a short search if that is a cover, of a reason that excludes covers, or of a search that the listener hears of. The only error is
+/// out of memory.
+fn decided_aloud<V: EndWatch, T: Trace + ReasonListener, C: Clock>(
+    alloc: Global,
+    problem: &Problem,
+    watch: &mut SearchWatch<'_, '_, '_, V, C>,
+    listener: &mut T,
+) -> Result<Option<Won>, AllocError>
+    ensures { IfOk result (λ found. IfSome found (IsWonOf problem.now)) }
+{
+    // (most covers are found so soon, and lines about them would be thrown away)
+    let short = searched_shortly(watch.clock, watch.race, alloc, problem)?;
+    if is_cover(&short) {
+        return Ok(short);
+    }
+    if short.is_none() {
+        if let Some(won) = excluded_aloud(alloc, problem, watch, listener) {
+            return Ok(Some(won));
+        }
+    }
+    searched_aloud(alloc, problem, watch, listener)
+}
+
+/// The lane of a search that the listener hears of, and of a reason. The only error is out of memory.
+pub(crate) fn heard_search_lane<V: EndWatch, T: Trace + ReasonListener, C: Clock>(
+    alloc: Global,
+    problem: &Problem,
+    watch: &mut SearchWatch<'_, '_, '_, V, C>,
+    listener: &mut T,
+) -> Result<Option<Won>, AllocError>
+    ensures { IfOk result (λ found. IfSome found (IsWonOf problem.now)) }
+{
+    let race = watch.race;
+    race.begin();
+    let found = decided_aloud(alloc, problem, watch, listener);
+    // (where it has no answer it was stopped, by another lane's or since the time is over)
+    if found.is_ok() {
+        race.end();
+    }
+    found
+}
