@@ -716,7 +716,8 @@ def kinds_of(parser: argparse.ArgumentParser) -> list[argparse.ArgumentParser]:
     kinds.choices["squares"].add_argument("file", metavar="FILE", help="a name and four colours a line")
     add_options(kinds.choices)
     for kind, words in kinds.choices.items():
-        words.description, words.formatter_class = as_called(help_of("word-square" if kind == "words" else kind)), argparse.RawDescriptionHelpFormatter
+        words.description = as_called(help_of("word-square" if kind == "words" else kind))
+        words.formatter_class = argparse.RawDescriptionHelpFormatter
     return list(dict.fromkeys(kinds.choices.values()))
 
 

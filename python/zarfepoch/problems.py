@@ -178,9 +178,9 @@ class Problem:
         return None if places is None else [self[place] for place in places]
 
     def covers(self, seconds: Optional[float] = None) -> Iterator[list[int]]:
-        """Each exact cover once, as the places of its options. A plain search in Python goes through all of them; where it meets none for a while, the
-        program is asked meanwhile whether there are any in the rest (`all_covers`). `TimeIsUp` where neither a cover nor the end comes in so many
-        seconds."""
+        """Each exact cover once, as the places of its options. A plain search in Python goes through all of them; where it meets none for a while,
+        the program is asked meanwhile whether there are any in the rest (`all_covers`). `TimeIsUp` where neither a cover nor the end comes in so
+        many seconds."""
         limit, program = checked_seconds(seconds), find_program()
         tree = Tree(cover_files.read_problem(self._numbered_text(self._numbered_lines())))
         kept = [place for place, option in enumerate(self) if self._is_kept(option)]
@@ -331,8 +331,8 @@ def want_list(options: object) -> None:
 def option_in(option: Iterable[Word], place: int) -> tuple[Word, ...]:
     """An option of a list; `ProblemError` where it is one text or a dict, of which letters or keys would be the items."""
     if isinstance(option, (str, bytes, Mapping)):
-        what = "a dict" if isinstance(option, Mapping) else f"the text {option!r}"
-        raise ProblemError(f"option {place} is {what}: a list of items is expected, as [{'item' if isinstance(option, Mapping) else repr(option)}]", option=place)
+        what, item = ("a dict", "item") if isinstance(option, Mapping) else (f"the text {option!r}", repr(option))
+        raise ProblemError(f"option {place} is {what}: a list of items is expected, as [{item}]", option=place)
     return tuple(option)
 
 

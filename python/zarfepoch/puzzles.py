@@ -14,7 +14,8 @@ from .cover_files import MAX_ITEMS, MAX_NAME, MAX_OCCURRENCES, MAX_OPTIONS
 from .picture_base import cell_words
 from .puzzle_texts import Change, Puzzle
 
-# a cell by row and column; two names; the lengths of a line's blocks, None where they aren't known; the primary items, the secondary items and the options of a problem
+# a cell by row and column; two names; the lengths of a line's blocks, None where they aren't known; the primary items, the secondary items and the
+# options of a problem
 Cell = tuple[int, int]
 Pair = tuple[str, str]
 Blocks = Optional[list[int]]

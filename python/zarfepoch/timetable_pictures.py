@@ -129,6 +129,7 @@ class Timetable(Kind):
         return {lesson: names.split() for lesson, names in self.told("also").items()}
 
     @functools.lru_cache(maxsize=None)
+    @functools.lru_cache(maxsize=None)
     def everybody(self) -> dict[str, str]:
         """All names in their order, each with its role, which is empty where no comment tells it."""
         found = {}
@@ -142,6 +143,7 @@ class Timetable(Kind):
     def lessons(self) -> dict[str, None]:
         return dict.fromkeys(lesson for option in self.options for lesson, _ in self.parted(option))
 
+    @functools.lru_cache(maxsize=None)
     def periods(self) -> list[str]:
         """All periods, by their numbers where these are numbers, else as a comment tells them."""
         periods = list(dict.fromkeys(name.rsplit("-", 1)[1] for option in self.options for _, names in self.parted(option) for name in names))
