@@ -129,7 +129,6 @@ class Timetable(Kind):
         return {lesson: names.split() for lesson, names in self.told("also").items()}
 
     @functools.lru_cache(maxsize=None)
-    @functools.lru_cache(maxsize=None)
     def everybody(self) -> dict[str, str]:
         """All names in their order, each with its role, which is empty where no comment tells it."""
         found = {}
