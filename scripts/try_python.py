@@ -26,14 +26,14 @@ import sys
 import tempfile
 import time
 from collections import Counter
-from collections.abc import Iterator
+from collections.abc import Hashable, Iterator
 from typing import Callable, Optional, TypeVar, Union
 
 from built import SOLVE_CLI, TOP, parser_of, want_program, path_of
 from expected import Trial
 from plain_search import clash, Numbered, read, search
 import zarfepoch
-from zarfepoch import Colored, Problem
+from zarfepoch import Clique, Colored, Problem, Reason
 from zarfepoch.all_covers import Covers, Question
 from zarfepoch.cover_files import read_problem
 from zarfepoch.problems import Asked
@@ -101,6 +101,18 @@ def random_answers() -> None:
             expect(f"all covers of {list(problem)}: {listed}", len(set(listed)) == len(listed) and set(listed) == all_covers(problem))
         reason = problem.reason()
         expect(f"a reason of {list(problem)}", reason is None or wanted is None)
+
+
+def cliques() -> None:
+    """Four exams in three slots, each two of which have a student in common: a reason counts the exams of a slot as a clique."""
+    pairs = list(itertools.combinations("efgh", 2))
+    problem = Problem("efgh", [(pair, slot) for pair in pairs for slot in range(3)])
+    for slot in range(3):
+        for exam in "efgh":
+            problem.add(exam, *((pair, slot) for pair in pairs if exam in pair))
+    reason = problem.reason()
+    rooms: dict[Hashable, int] = {Clique(tuple(range(4 * slot, 4 * slot + 4))): 1 for slot in range(3)}
+    expect(f"a reason by cliques: {reason!r}", reason == Reason(None, {}, dict.fromkeys("efgh", 1), rooms))
 
 
 def plain_covers(primary: int, options: list[Numbered], chosen: list[int], live: list[int]) -> Iterator[frozenset[int]]:
@@ -427,6 +439,7 @@ def main() -> int:
     os.chdir(TOP)
     examples()
     random_answers()
+    cliques()
     all_by_both()
     many_covers()
     errors()
