@@ -110,8 +110,10 @@ class Trial:
 
     def judge(self, ended: Ended, memory: bool) -> None:
         """Counts a run that went wrong, and prints how. Without `memory` there may be no answer since threads can't be started."""
-        right = (ended.status == 0 and (ended.text == ANSWER or REASONED.fullmatch(ended.text))) or (ended.status == 4 and ended.text == "no answer\n" and not memory) or (
-            memory and ended.status == 5 and "out of memory" in ended.why and not ended.text)
+        is_answer = ended.status == 0 and (ended.text == ANSWER or REASONED.fullmatch(ended.text))
+        is_unanswered = ended.status == 4 and ended.text == "no answer\n" and not memory
+        is_refused = memory and ended.status == 5 and "out of memory" in ended.why and not ended.text
+        right = is_answer or is_unanswered or is_refused
         if not right or ended.seconds > self.limit:
             self.wrongly(ended)
 
