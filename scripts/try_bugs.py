@@ -41,7 +41,7 @@ MEMORY, BENCH = "by refused memory", "by a bench"
 def chosen_bugs(words: list[str]) -> dict[str, list[str]]:
     """The names of the bugs to try, by crate."""
     chosen: dict[str, list[str]] = {}
-    for word in words or sorted(os.listdir(BUGS)):
+    for word in words or sorted(it.name for it in os.scandir(BUGS) if it.is_dir()):
         crate, _, name = word.removesuffix(".edit").partition("/")
         folder = os.path.join(BUGS, crate)
         there = sorted(it.removesuffix(".edit") for it in os.listdir(folder)) if os.path.isdir(folder) else []

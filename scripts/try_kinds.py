@@ -5,7 +5,8 @@
 
 Of each kind N puzzles are drawn by lot (1 where no number is given). What is drawn is tested by the kind's own rules, which know nothing of items and
 options; whether an answer is the only one is compared with puzzles of which that is known. Reasons are told in the words of the puzzle, and which
-of its givens may be mistyped. Sudokus in all spellings are one, and texts that can't be meant are refused. Pages that are made of the commands' help have all their options.
+of its givens may be mistyped. All solutions are drawn and counted. Sudokus in all spellings are one, and texts that can't be meant are refused. Pages
+that are made of the commands' help have all their options.
 
 It wants the program: (cd crates/solve_cli && rt run -- --version) builds it. The last line is 'N passed, M failed'. The exit status is 0 where all
 passed, 1 where something failed, 2 for a mistake on the command line or where there is no program.
@@ -66,7 +67,8 @@ def only_ones(trial: Solving) -> None:
     """Whether an answer is the only one."""
     grid = trial.path("grid.txt", "..\n#.\n")
     for words, told in ((["sudoku", UNIQUE], ONLY), (["sudoku", "." * 16], OTHER), (["langford", "3"], OTHER), (["queens", "1"], ONLY), (["queens", "6"], OTHER),
-                        (["killer", os.path.join(TOP, "examples", "killer.txt")], ONLY), (["sudoku", os.path.join(TOP, "examples", "sudoku.txt")], ONLY), (["crossword", grid, trial.path("one.txt", "ab bc\n")], ONLY),
+                        (["killer", os.path.join(TOP, "examples", "killer.txt")], ONLY),
+                        (["sudoku", os.path.join(TOP, "examples", "sudoku.txt")], ONLY), (["crossword", grid, trial.path("one.txt", "ab bc\n")], ONLY),
                         (["crossword", grid, trial.path("two.txt", "ab bc bd\n")], OTHER),
                         (["nonogram", trial.path("cross.txt", "1\n3\n1\n\n1\n3\n1\n")], ONLY), (["nonogram", trial.path("two-by-two.txt", "1\n1\n\n1\n1\n")], OTHER)):
         status, lines, errors = trial.run(*words)
@@ -99,21 +101,28 @@ def reasons(trial: Solving) -> None:
 
 # puzzles in which one thing is mistyped: the words of the command, a text, what is changed in it the first time it comes, and what has to be told
 MISTYPED: tuple[tuple[list[str], str, str, str, str], ...] = (
-    (["sudoku"], "sudoku", "8.", "84", "without the 4 in row 1 column 2"), (["jigsaw"], "jigsaw", "....5849", "7...5849", "without the 7 in row 2 column 1"),
-    (["sudoku", "--hyper"], "hyper", "89..46", "893.46", "without the 3 in row 3 column 4"), (["sudoku"], "clash", "8.", "89", "without the 9 in row 1 column 2"),
+    (["sudoku"], "sudoku", "8.", "84", "without the 4 in row 1 column 2"),
+    (["jigsaw"], "jigsaw", "....5849", "7...5849", "without the 7 in row 2 column 1"),
+    (["sudoku", "--hyper"], "hyper", "89..46", "893.46", "without the 3 in row 3 column 4"),
+    (["sudoku"], "clash", "8.", "89", "without the 9 in row 1 column 2"),
     (["killer"], "killer", "b=13", "b=12", "without the sum 12 of the cage that begins in row 1 column 2"),
-    (["kakuro"], "kakuro", "16\\", "15\\", "without the sum 15 below row 1 column 2"), (["kenken"], "kenken", "f=7+", "f=9+", "without the 9+ of the cage f"),
-    (["dominosa"], "dominosa", "3 4", "2 4", "with a 3 in place of the 2 in row 1 column 1"), (["tents"], "tents", "T. 3", "T. 2", "with 3 in place of the 2 of row 1"),
-    (["tents"], "tents", "\n3 0", "\n4 0", "with 3 in place of the 4 of column 1"), (["tents"], "tents", "TT......", "T.......", "with a tree in row 8 column 2"),
+    (["kakuro"], "kakuro", "16\\", "15\\", "without the sum 15 below row 1 column 2"),
+    (["kenken"], "kenken", "f=7+", "f=9+", "without the 9+ of the cage f"),
+    (["dominosa"], "dominosa", "3 4", "2 4", "with a 3 in place of the 2 in row 1 column 1"),
+    (["tents"], "tents", "T. 3", "T. 2", "with 3 in place of the 2 of row 1"),
+    (["tents"], "tents", "\n3 0", "\n4 0", "with 3 in place of the 4 of column 1"),
+    (["tents"], "tents", "TT......", "T.......", "with a tree in row 8 column 2"),
     (["shikaku"], "shikaku", ". 2", ". 3", "with 2 in place of the 3 in row 1 column 2"),
     (["futoshiki"], "futoshiki", ". < .", ". > .", "without the sign between row 2 column 3 and row 2 column 4"),
     (["futoshiki"], "futoshiki", ".   .   .   .   .", "2   .   .   .   .", "without the 2 in row 1 column 1"),
-    (["binairo"], "binairo", ". . . . . . 0", "0 . . . . . 0", "without the 0 in row 1 column 1"), (["binairo"], "binairo", "0 . 0 . 1", "0 0 0 . 1", "without the 0 in row 3 column 2"),
+    (["binairo"], "binairo", ". . . . . . 0", "0 . . . . . 0", "without the 0 in row 1 column 1"),
+    (["binairo"], "binairo", "0 . 0 . 1", "0 0 0 . 1", "without the 0 in row 3 column 2"),
     (["nonogram"], "nonogram", "3", "2", "without the numbers of row 2"), (["nonogram"], "straight", "1 1", "2", "without the numbers of row 1"),
     (["coloring", "--colors", "red,green"], "map", "a b", "c b", "without the border of a and c"),
     (["coloring"], "given", "d=red", "b=red", "without the colour red of b"))
 TEXTS = {"sudoku": "\n".join(UNIQUE[k:k + 9] for k in range(0, 81, 9)), "clash": "\n".join(UNIQUE[k:k + 9] for k in range(0, 81, 9)),
-         "nonogram": "1\n3\n1\n\n1\n3\n1\n", "straight": "1 1\n1\n1 1\n\n1 1\n1\n1 1\n", "map": "a b\nb c\na d\nd c\na c\n", "given": "a=red\nd=red\na b\nb c\nc d\n"}
+         "nonogram": "1\n3\n1\n\n1\n3\n1\n", "straight": "1 1\n1\n1 1\n\n1 1\n1\n1 1\n", "map": "a b\nb c\na d\nd c\na c\n",
+         "given": "a=red\nd=red\na b\nb c\nc d\n"}
 
 
 def mistyped(trial: Solving) -> None:
@@ -125,10 +134,13 @@ def mistyped(trial: Solving) -> None:
         found = [re.fullmatch("There is (?:a|exactly one) solution (.*)[.]", line) for line in lines]
         trial.expect(f"{words} {told}: {status} {lines} {errors}", status == 1 and before in text and
                      told in ", or ".join(match[1] for match in found if match).split(", or "))
-    status, lines, _ = trial.run("sudoku", trial.path("wrong.txt", SUDOKU.replace("3 .", "3 1", 1).replace(". . . . 8", "1 . . . 8", 1)), "--seconds", "60")
-    trial.expect(f"more than one is wrong: {lines}", status == 1 and lines[-1] == "More than one of its 32 givens is wrong: no change of one alone helps.")
+    text = SUDOKU.replace("3 .", "3 1", 1).replace(". . . . 8", "1 . . . 8", 1)
+    status, lines, _ = trial.run("sudoku", trial.path("wrong.txt", text), "--seconds", "60")
+    told = "More than one of its 32 givens is wrong: no change of one alone helps."
+    trial.expect(f"more than one is wrong: {lines}", status == 1 and lines[-1] == told)
     status, lines, _ = trial.run("sudoku", trial.path("wrong.txt", TEXTS["sudoku"].replace("8.", "84", 1)), "--seconds", "60")
-    trial.expect(f"what leaves one solution comes first: {lines}", [line[:30] for line in lines[-2:]] == ["There is exactly one solution ", "With one of 20 other changes t"])
+    begins = [line[:30] for line in lines[-2:]]
+    trial.expect(f"what leaves one solution comes first: {lines}", begins == ["There is exactly one solution ", "With one of 20 other changes t"])
     status, lines, _ = trial.run("langford", "5")
     trial.expect(f"nothing is given: {lines}", status == 1 and not any("solution with" in line or "givens" in line for line in lines))
     slow = trial.path("slow", f"#!/bin/sh\nsleep 0.2\nexec {trial.environment['ZARFEPOCH']} \"$@\"\n")
@@ -149,7 +161,8 @@ def all_solutions(trial: Solving) -> None:
     status, lines, _ = trial.run("langford", "5", "--all")
     trial.expect(f"none of all: {lines}", status == 1 and lines[0] == "There is no solution.")
     status, lines, _ = trial.run("queens", "20", "--count", "--seconds", "1")
-    trial.expect(f"too many: {lines}", status == 0 and re.fullmatch(r"There are at least [\d,]+ solutions: the time was over before the end.", lines[0]))
+    told = r"There are at least [\d,]+ solutions: the time was over before the end."
+    trial.expect(f"too many: {lines}", status == 0 and re.fullmatch(told, lines[0]))
     trial.expect("a picture of all", trial.run("queens", "4", "--all", "--out", trial.path("all.svg"))[0] == 2)
     told = "\n".join(trial.run("--help")[1])
     trial.expect("all kinds in the help", all(re.search(rf"\b{kind}\b", told) for kind in ("queens", "kenken", "word-square", "timetable", "cubes")))
@@ -170,7 +183,8 @@ def schools(trial: Solving) -> None:
     trial.expect(f"the plan is right: {found}", not found)
     status, lines, errors = trial.run("timetable", table, "--rules", rules, "--keep", plan, "--csv", "-")
     with open(plan, encoding="utf-8") as planned:
-        trial.expect(f"the plan is kept: {errors}", status == 0 and lines == planned.read().splitlines() and "32 of 32 times of lessons stay" in errors)
+        trial.expect(f"the plan is kept: {errors}", status == 0 and lines == planned.read().splitlines())
+    trial.expect(f"all stay: {errors}", "32 of 32 times of lessons stay" in errors and " from " not in errors)
     two = trial.path("one.csv", "lesson;teacher;class;periods;times\nart;ann;5a;Mon1-3 Tue1-3;3\n")
     kept = trial.path("kept.csv", "lesson;class;periods\nart;5a;Mon1\nart;5a;Mon2\nart;5a;Tue2\n")
     for away, count, days in (("Mon1", 2, {"Mon2", "Tue2"}), ("Mon", 1, {"Tue1", "Tue2", "Tue3"})):
@@ -179,6 +193,8 @@ def schools(trial: Solving) -> None:
         begins = {line.split(";")[4] for line in lines[1:]}
         trial.expect(f"{count} stay without {away}: {status} {errors} {begins}",
                      status == 0 and f"{count} of 3 times of lessons stay" in errors and days <= begins)
+        moved = sorted(begins - {"Mon1", "Mon2", "Tue2"})
+        trial.expect(f"what moved: {errors}", f"  art of 5a: from {'Mon1' if count == 2 else 'Mon1 Mon2'} to {' '.join(moved)}\n" in errors)
     rows = [f"l{k};{one}t{k % 9};{one}{k // 9};;;3;;1" for one in "ab" for k in range(54)]
     large = trial.path("two.csv", "\n".join(["lesson;teacher;class;rooms;periods;times;length;a_day", *rows]) + "\n")
     week = trial.path("week.csv", "who;periods\nall;Mon-Fri1-6\n")
@@ -200,13 +216,18 @@ def written(trial: Solving) -> None:
         ("plain by counting", ["sudoku", "11" + "." * 14], 1),
         ("a folder that isn't there", ["queens", "4", "--out", "nothing/x.svg"], 3))
     # (a program that says so: nobody knows a problem of a kind that takes longer than a second on any machine)
-    late = trial.path("late", "#!/bin/sh\ncat > /dev/null\necho no answer\necho 'ended: the time is over: try more --seconds, or solve' >&2\nexit 4\n")
+    why = "ended: the time is over: try more --seconds, or solve"
+    late = trial.path("late", f"#!/bin/sh\ncat > /dev/null\necho no answer\necho '{why}' >&2\nexit 4\n")
     os.chmod(late, 0o755)
     status, _, errors = trial.run("langford", "4", "--seconds", "1", program=late)
     trial.expect(f"too little time: {status} {errors}", (status, errors) == (4, "zarfepoch: no answer: the time is over: try more --seconds\n"))
     for what, words, wanted in rows:
         status, lines, errors = trial.run(*words)
         trial.expect(f"{what}: {status} {errors}", status == wanted and errors.startswith("zarfepoch: ") | errors.startswith("usage: ") and "Traceback" not in errors)
+    slow = trial.path("slow", f"#!/bin/sh\nsleep 11\nexec {trial.environment['ZARFEPOCH']} \"$@\"\n")
+    os.chmod(slow, 0o755)
+    status, lines, errors = trial.run("queens", "4", "--one", program=slow)
+    trial.expect(f"it says that it goes on: {errors}", status == 0 and "still looking, for 10 seconds now" in errors and "this took 1" in errors)
     for program, wanted in (("/dev/null", 2), ("/bin/false", 3), ("/bin/true", 3)):
         status, _, errors = trial.run("queens", "4", program=program)
         trial.expect(f"the program {program}: {status} {errors}", status == wanted and "Traceback" not in errors)

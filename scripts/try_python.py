@@ -4,8 +4,8 @@
     python3 scripts/try_python.py [--program PROGRAM]
 
 The examples of the package and those of python/README.md are run as they stand. Of random problems, with items that aren't texts, secondary items
-and colours, each answer and all covers are compared with plain searches. Problems are written and read again. Then the package is installed into an environment of
-its own, without a network and as an archive too, and the examples are run there: from another folder, without HOME, with the program on the path
+and colours, each answer and all covers are compared with plain searches. Problems are written and read again. Then the package is installed into an
+environment of its own, without a network and as an archive too, and the examples are run there: from another folder, without HOME, with the program on the path
 alone. A killed Python leaves no file behind, and its program ends with it. A line says how long a call takes, over 200 calls.
 
 It wants the program: (cd crates/solve_cli && rt run -- --version) builds it. The last line is 'N passed, M failed'. The exit status is 0 where all
@@ -26,14 +26,14 @@ import sys
 import tempfile
 import time
 from collections import Counter
-from collections.abc import Iterator
+from collections.abc import Hashable, Iterator
 from typing import Callable, Optional, TypeVar, Union
 
 from built import SOLVE_CLI, TOP, parser_of, want_program, path_of
 from expected import Trial
 from plain_search import clash, Numbered, read, search
 import zarfepoch
-from zarfepoch import Colored, Problem
+from zarfepoch import Clique, Colored, Problem, Reason
 from zarfepoch.all_covers import Covers, Question
 from zarfepoch.cover_files import read_problem
 from zarfepoch.problems import Asked
@@ -103,6 +103,18 @@ def random_answers() -> None:
         expect(f"a reason of {list(problem)}", reason is None or wanted is None)
 
 
+def cliques() -> None:
+    """Four exams in three slots, each two of which have a student in common: a reason counts the exams of a slot as a clique."""
+    pairs = list(itertools.combinations("efgh", 2))
+    problem = Problem("efgh", [(pair, slot) for pair in pairs for slot in range(3)])
+    for slot in range(3):
+        for exam in "efgh":
+            problem.add(exam, *((pair, slot) for pair in pairs if exam in pair))
+    reason = problem.reason()
+    rooms: dict[Hashable, int] = {Clique(tuple(range(4 * slot, 4 * slot + 4))): 1 for slot in range(3)}
+    expect(f"a reason by cliques: {reason!r}", reason == Reason(None, {}, dict.fromkeys("efgh", 1), rooms))
+
+
 def plain_covers(primary: int, options: list[Numbered], chosen: list[int], live: list[int]) -> Iterator[frozenset[int]]:
     """All exact covers that begin so and go on with live options, by the first item that isn't covered."""
     covered = {item for place in chosen for item in options[place]}
@@ -112,7 +124,8 @@ def plain_covers(primary: int, options: list[Numbered], chosen: list[int], live:
         return
     for place in live:
         if item in options[place]:
-            yield from plain_covers(primary, options, [*chosen, place], [other for other in live if not clash(primary, options[place], options[other])])
+            left = [other for other in live if not clash(primary, options[place], options[other])]
+            yield from plain_covers(primary, options, [*chosen, place], left)
 
 
 def large_problem(draw: random.Random) -> Problem:
@@ -182,7 +195,7 @@ def all_by_both() -> None:
 
 
 def many_covers() -> None:
-    """All covers of problems in which one search for each wouldn't end, the first of them at once; who goes on no further leaves no program behind."""
+    """All covers of problems in which one search for each wouldn't end; who goes on no further leaves no program behind."""
     made = subprocess.run([sys.executable, os.path.join(TOP, "examples", "generate.py"), "pentominoes", "3x20"], capture_output=True)
     begun = time.monotonic()
     found = [frozenset(cover) for cover in Problem.parse(made.stdout).covers(seconds=120)]
@@ -205,7 +218,8 @@ def errors() -> None:
         (zarfepoch.ProblemError, lambda: Problem(["a"], ["x"], [["a", Colored("x", None)]]), 0, "x"),
         (zarfepoch.ProblemError, lambda: Problem([]), None, None), (zarfepoch.ProblemError, lambda: Problem(), None, None),
         (zarfepoch.ColoredPrimary, lambda: Problem(options=[["a"], ["b", Colored("x", 1)]]), 1, "x"),
-        (zarfepoch.ProblemError, lambda: zarfepoch.solve(["ab"]), 0, None), (zarfepoch.ProblemError, lambda: zarfepoch.solve([["a"], {"b": 1}]), 1, None),
+        (zarfepoch.ProblemError, lambda: zarfepoch.solve(["ab"]), 0, None),
+        (zarfepoch.ProblemError, lambda: zarfepoch.solve([["a"], {"b": 1}]), 1, None),
         (zarfepoch.ProblemError, lambda: zarfepoch.chosen({"A": ["a"]}), None, None),
         (zarfepoch.ProblemError, lambda: Problem(["a b"]).text(), None, "a b"),
         (zarfepoch.ProblemError, lambda: Problem(["a"], ["x"], [["a", Colored("x", "1:2")]]).text(), 0, "1:2"),
@@ -425,6 +439,7 @@ def main() -> int:
     os.chdir(TOP)
     examples()
     random_answers()
+    cliques()
     all_by_both()
     many_covers()
     errors()

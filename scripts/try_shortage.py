@@ -29,6 +29,7 @@ from __future__ import annotations
 
 import collections
 import os
+import re
 import resource
 import subprocess
 import sys
@@ -43,8 +44,8 @@ LETTERS = "a b c d e f g\nc e\na d g\nb c f\na d f\nb g\nd e g\n"
 ANSWER = "cover 3\nc e\na d f\nb g\n"
 # the same without the last but one option, so that there is no cover
 BARREN = "a b c d e f g\nc e\na d g\nb c f\na d f\nd e g\n"
-# by the search, to whose states nothing that is refused adds any
-REASONED = ANSWER + "by search of 5 states\n"
+# by the search, or by another lane where the search has no memory
+REASONED = re.compile(re.escape(ANSWER) + r"by (search of 5 states|[0-9]+ learned clauses?|a run of [0-9]+ workers?)\n")
 THREADS = (0, 1, 2, 4, 8, 12, 16)
 ALONE = ("--nodes", "1", "--workers", "1")
 USUAL: Sequence[str] = ()
@@ -109,8 +110,10 @@ class Trial:
 
     def judge(self, ended: Ended, memory: bool) -> None:
         """Counts a run that went wrong, and prints how. Without `memory` there may be no answer since threads can't be started."""
-        right = (ended.status == 0 and ended.text in (ANSWER, REASONED)) or (ended.status == 4 and ended.text == "no answer\n" and not memory) or (
-            memory and ended.status == 5 and "out of memory" in ended.why and not ended.text)
+        is_answer = ended.status == 0 and (ended.text == ANSWER or REASONED.fullmatch(ended.text))
+        is_unanswered = ended.status == 4 and ended.text == "no answer\n" and not memory
+        is_refused = memory and ended.status == 5 and "out of memory" in ended.why and not ended.text
+        right = is_answer or is_unanswered or is_refused
         if not right or ended.seconds > self.limit:
             self.wrongly(ended)
 

@@ -265,6 +265,10 @@ def refusals(trial: Planning) -> None:
 IMPOSSIBLE = (
     ("a double lesson and one on each day", "maths;ann;5a;;Mon-Tue1-2;2;;1;;;\nart;bob;5a;;Mon-Tue1-2;1;2;;;;\nmusic;cy;5b;;Mon1;1;;;;;\n", "",
      "Of 5a: these 2 rows can't be together:\n  line 2: maths 2, at most 1 a day (ann; 5a), Mon1-2 Tue1-2\n  line 3: art 1 x 2 (bob; 5a), Mon1-2 Tue1-2"),
+    ("a lesson that is fixed", "maths;ann;5a;;Mon-Tue1-2;2;;1;;Mon1;\nart;bob;5a;;Mon-Tue1-2;1;2;;;;\n", "",
+     "  line 2: maths 2, at most 1 a day (ann; 5a), Mon1-2 Tue1-2, fixed at Mon1\n"),
+    ("a room's rule", "a;gross;5a;hall;Mon-Tue1-3;3;;;;;\nb;bob;5b;;Mon-Tue1-3;1;;;;;\n", "hall;Mon1 Tue1;;;\n",
+     "; hall (line 3 of the rules): can be had in Mon1 Tue1"),
     ("a hole that has to be", "maths;ann;5a;;Mon1-3;1;;;;;\nart;bob;5a;;Mon1-3;1;;;;;\nmusic;cy;5b;;Mon1-3;1;;;;;\n", "5a;;;;0\nann;Mon1;;;\nbob;Mon3;;;\n",
      "  ann (line 4 of the rules): can be had in Mon1\n  5a (line 3 of the rules): no holes\n  bob (line 5 of the rules): can be had in Mon3"),
     ("a teacher whose days are full", "a;ann;5a;;Mon-Tue1-3;2;2;;;;\nb;ann;5b;;Mon-Tue1-3;1;;;;;\nc;bob;5a;;Mon1;1;;;;;\n", "ann;;;2;\n", "line 2, 3: there is no timetable: ann has 5"))

@@ -47,13 +47,13 @@ from typing import Optional, TypeVar
 from .errors import (
     ColoredPrimary, Error, NoAnswer, NoProgram, OutOfMemory, ProblemError, ProgramError, RepeatedItem, TimeIsUp, TooLarge, UncleanAudit, UnknownItem,
     WrongNumber)
-from .problems import Colored, Problem, Reason, want_list, Word
+from .problems import Clique, Colored, Problem, Reason, want_list, Word
 from .programs import find_program
 
 __version__ = "1.0.0"
 __all__ = [
-    "Colored", "ColoredPrimary", "Error", "NoAnswer", "NoProgram", "OutOfMemory", "Problem", "ProblemError", "ProgramError", "Reason", "RepeatedItem",
-    "TimeIsUp", "TooLarge", "UncleanAudit", "UnknownItem", "Word", "WrongNumber", "__version__", "chosen", "find_program", "reasons", "solve"]
+    "Clique", "Colored", "ColoredPrimary", "Error", "NoAnswer", "NoProgram", "OutOfMemory", "Problem", "ProblemError", "ProgramError", "Reason",
+    "RepeatedItem", "TimeIsUp", "TooLarge", "UncleanAudit", "UnknownItem", "Word", "WrongNumber", "__version__", "chosen", "find_program", "reasons", "solve"]
 
 Option = TypeVar("Option", bound=Iterable[Word])
 

@@ -119,7 +119,8 @@ class Covers:
         return None
 
     def ask_first(self) -> Optional[Cover]:
-        """Asks about the first prefix, or about children of it where it is known to have a cover below it; a cover, if it is one that wasn't told yet."""
+        """Asks about the first prefix, or about children of it where it is known to have a cover below it. A cover, if the first prefix is one that
+        wasn't told yet."""
         while self.waiting:
             first = self.waiting[0]
             if first.item is not None and not any(cover.issuperset(first.options) for cover in self.ahead):

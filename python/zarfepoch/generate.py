@@ -197,7 +197,7 @@ FROM_TEXTS = {
     **{f"{kind}.dlx": [kind, f"{kind}.txt"] for kind in ("dominosa", "tents", "shikaku", "futoshiki", "kenken", "binairo")},
 }
 # the blocks of nine rows and of ten columns
-NONOGRAM: tuple[list[puzzles.Blocks], list[puzzles.Blocks]] = ([[1], [2], [3, 1], [4, 2], [5, 3], [1], [10], [8], [6]],
+NONOGRAM: tuple[list[list[int]], list[list[int]]] = ([[1], [2], [3, 1], [4, 2], [5, 3], [1], [10], [8], [6]],
             [[1, 1], [2, 2], [3, 3], [4, 3], [9], [3], [3, 3], [2, 3], [1, 2], [1]])
 # the colours of front, right, back, left, top and bottom
 CUBES = ["one blue green red white blue green", "two blue red white white green green", "three green white red red blue red",
@@ -716,7 +716,8 @@ def kinds_of(parser: argparse.ArgumentParser) -> list[argparse.ArgumentParser]:
     kinds.choices["squares"].add_argument("file", metavar="FILE", help="a name and four colours a line")
     add_options(kinds.choices)
     for kind, words in kinds.choices.items():
-        words.description, words.formatter_class = as_called(help_of("word-square" if kind == "words" else kind)), argparse.RawDescriptionHelpFormatter
+        words.description = as_called(help_of("word-square" if kind == "words" else kind))
+        words.formatter_class = argparse.RawDescriptionHelpFormatter
     return list(dict.fromkeys(kinds.choices.values()))
 
 

@@ -16,7 +16,7 @@ from typing import NamedTuple, Optional
 
 from .answers import answered
 from .timetable_files import Lesson
-from .timetable_rules import School
+from .timetable_rules import rule_words, School
 from .timetable_steps import named_lesson
 from .timetables import timetables
 from .weeks import told_periods
@@ -106,14 +106,6 @@ def core_of(program: str, school: School, seconds: float, is_none: bool) -> Opti
                 questions.is_over())
 
 
-def rule_words(school: School, who: str) -> str:
-    """What the rules say of somebody."""
-    rule = school.rules[who]
-    parts = [f"can be had in {told_periods(rule.periods)}" if rule.periods is not None else "", f"at most {rule.a_day} periods a day" if rule.a_day else "",
-             "" if rule.holes is None else "no holes" if rule.holes == 0 else f"at most {rule.holes} holes"]
-    return f"{who} (line {rule.line} of the rules): {', '.join(filter(None, parts))}"
-
-
 def core_words(school: School, core: Core) -> list[str]:
     """Lines that tell which rows of the tables can't be together."""
     count = len(core.lessons)
@@ -124,5 +116,6 @@ def core_words(school: School, core: Core) -> list[str]:
         who = "; ".join(filter(None, (" or ".join("+".join(some) for some in lesson.teachers), "+".join(lesson.classes),
                                       " or ".join("+".join(some) for some in lesson.rooms))))
         a_day = f", at most {lesson.a_day} a day" if lesson.a_day and lesson.times > 1 else ""
-        lines.append(f"  line {lesson.line}: {named_lesson(lesson)}{a_day} ({who}), {told_periods(lesson.periods)}")
+        fixed = f", fixed at {told_periods(lesson.fixed)}" if lesson.fixed else ""
+        lines.append(f"  line {lesson.line}: {named_lesson(lesson)}{a_day} ({who}), {told_periods(lesson.periods)}{fixed}")
     return lines + [f"  {rule_words(school, who)}" for who in core.rules]

@@ -17,7 +17,7 @@ from .fault_words import plural
 from .puzzle_texts import Change, PlainlyNone, Puzzle
 from .puzzles import NoSolution, Refused
 
-# so many seconds all changes together may take where no time is told, and each of them
+# so many seconds all changes together may take where no time is told, and each question about one, or a tenth of the time if that is more
 SECONDS, QUESTION = 5.0, 1.0
 # so many changes are told
 MOST = 6
@@ -34,19 +34,19 @@ def changed(change: Change) -> Optional[Puzzle]:
         return None
 
 
-def count_of(program: str, change: Change) -> Optional[int]:
-    """How many solutions there are after a change: none, one, or 2 for several; None where that isn't known."""
+def count_of(program: str, change: Change, seconds: float) -> Optional[int]:
+    """How many solutions there are after a change: none, one, or 2 for several; None where that isn't known. Each question has so many seconds."""
     try:
         puzzle = changed(change)
     except (PlainlyNone, NoSolution):
         return 0
-    found = answered(program, puzzle.text(), QUESTION) if puzzle else None
+    found = answered(program, puzzle.text(), seconds) if puzzle else None
     if not puzzle or not found or found.status != 0:
         return 0 if found and found.status == 1 else None
     problem = read_problem(puzzle.text())
     chosen = [problem.options[place].words for _, place in read_audited(found.text, problem).chosen]
     text, too_large = others_of(problem, [chosen], free_name(problem, b"other"))
-    return 1 if not too_large and answered(program, text, QUESTION).status == 1 else 2
+    return 1 if not too_large and answered(program, text, seconds).status == 1 else 2
 
 
 def listed(words: Sequence[str]) -> str:
@@ -69,7 +69,7 @@ def told_changes(program: str, changes: Sequence[Change], seconds: float = SECON
     for change in changes:
         if time.monotonic() > until:
             break
-        counts.append(count_of(program, change))
+        counts.append(count_of(program, change, max(QUESTION, seconds / 10)))
     told = solution_words(*([change.words for change, count in zip(changes, counts) if count == wanted] for wanted in (1, 2)))
     if len(counts) < len(changes):
         return [*told, f"({len(counts)} of {len(changes)} givens were looked at, in {seconds:g} seconds.)"]

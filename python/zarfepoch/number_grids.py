@@ -77,7 +77,8 @@ def replaced(path: str, values: dict[Cell, int], most: int) -> list[Change]:
     if sorted(wrong.values()) != [-1, 1]:
         return []
     lacking, often = sorted(wrong, key=wrong.__getitem__)
-    return [Change(f"with a {lacking} in place of the {often} in {cell_words(cell)}", functools.partial(dominoes_on, path, {**values, cell: lacking}, most))
+    return [Change(f"with a {lacking} in place of the {often} in {cell_words(cell)}",
+                   functools.partial(dominoes_on, path, {**values, cell: lacking}, most))
             for cell, value in values.items() if value == often]
 
 
@@ -207,7 +208,8 @@ def resized(path: str, clues: dict[Cell, int], size: Cell, lines: list[int]) -> 
     """Where the numbers don't make all cells: changes of one of them after which they do."""
     by = size[0] * size[1] - sum(clues.values())
     return [Change(f"with {area + by} in place of the {area} in {cell_words(cell)}",
-                   functools.partial(rectangles_round, path, {**clues, cell: area + by}, size, lines)) for cell, area in clues.items() if area + by > 0]
+                   functools.partial(rectangles_round, path, {**clues, cell: area + by}, size, lines))
+            for cell, area in clues.items() if area + by > 0]
 
 
 def rectangles_round(path: str, clues: dict[Cell, int], size: Cell, lines: list[int]) -> Puzzle:
@@ -226,7 +228,8 @@ def rectangles_round(path: str, clues: dict[Cell, int], size: Cell, lines: list[
         if not found:
             no_cover(f"{path}, line {lines[r]}: no rectangle of {plural(area, 'cell')} round the number {area} in column {c + 1} has no other number")
         options += found
-    return Puzzle(list(names.values()), [], options, [f"numbers: {told_rows([[str(clues.get((r, c), '.')) for c in range(wide)] for r in range(high)])}"])
+    told = told_rows([[str(clues.get((r, c), ".")) for c in range(wide)] for r in range(high)])
+    return Puzzle(list(names.values()), [], options, [f"numbers: {told}"])
 
 
 # ---- futoshiki
@@ -286,7 +289,8 @@ def without_digit(rows: list[list[int]], cell: Cell) -> list[list[int]]:
 
 def without_one(path: str, rows: list[list[int]], pairs: list[tuple[Cell, Cell]], lines: list[int]) -> list[Change]:
     """A futoshiki without each of its digits, and without each of its signs."""
-    digits = [Change(f"without the {digit} in {cell_words((r, c))}", functools.partial(signed_square, path, without_digit(rows, (r, c)), pairs, lines))
+    digits = [Change(f"without the {digit} in {cell_words((r, c))}",
+                     functools.partial(signed_square, path, without_digit(rows, (r, c)), pairs, lines))
               for r, row in enumerate(rows) for c, digit in enumerate(row) if digit]
     return digits + [Change(f"without the sign between {cell_words(min(pair))} and {cell_words(max(pair))}",
                             functools.partial(signed_square, path, rows, [other for other in pairs if other != pair], lines)) for pair in pairs]
@@ -385,7 +389,8 @@ def kenken(path: str) -> Puzzle:
     return caged_square(path, rows, cells, makes, lines)
 
 
-def without_cage(path: str, rows: list[str], cells: dict[str, list[Cell]], makes: dict[str, tuple[str, int]], lines: list[tuple[int, str]]) -> list[Change]:
+def without_cage(path: str, rows: list[str], cells: dict[str, list[Cell]], makes: dict[str, tuple[str, int]],
+                 lines: list[tuple[int, str]]) -> list[Change]:
     """A KenKen without what each of its cages makes: its cells are cages of their own then, which make anything."""
     changes = []
     for letter, its_cells in cells.items():
@@ -457,8 +462,8 @@ def filled_lines(path: str, marks: list[list[str]], numbers: list[int], alike: b
         for k, given in enumerate(some):
             found = [line for line in every if all(mark in (".", cell) for mark, cell in zip(given, line))]
             if not found:
-                no_cover(f"{path}{f', line {numbers[k]}' if kind == 'row' else ''}: {kind} {k + 1} can't be filled with as many noughts as ones, no three "
-                         "alike side by side", changes)
+                line = f", line {numbers[k]}" if kind == "row" else ""
+                no_cover(f"{path}{line}: {kind} {k + 1} can't be filled with as many noughts as ones, no three alike side by side", changes)
             for line in found:
                 fitting[kind, line] = fitting.get((kind, line), 0) + 1
                 cells = [names[(k, j) if kind == "row" else (j, k)] for j in range(size)]

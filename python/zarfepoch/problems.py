@@ -46,13 +46,18 @@ def parts_of(word: Word) -> tuple[Hashable, Optional[Hashable]]:
     return (word.item, word.colour) if isinstance(word, Colored) else (word, None)
 
 
+class Clique(NamedTuple):
+    """Options each two of which clash, by their places: a cover has one of them at most, so a clique counts as a secondary item of all of them."""
+    places: tuple[int, ...]
+
+
 class Reason(NamedTuple):
     """Why there is no cover, so that anybody can add it up.
 
     With a `modulus`, the `weights` of each option's items add up to a multiple of it, and all weights together don't. Without one, each option
     brings at least as much room as it needs, and all `needs` together are more than all `rooms`. The rest of the items count as 0. Secondary items
     in `full_rooms` may have weights and needs, too: each cover uses them, since each option brings at least as much of this room as it has
-    `full_needs`, and all of these together are as much as all of this room.
+    `full_needs`, and all of these together are as much as all of this room. Beside items there may be a `Clique`.
     """
     modulus: Optional[int]
     weights: dict[Hashable, int]
@@ -178,9 +183,9 @@ class Problem:
         return None if places is None else [self[place] for place in places]
 
     def covers(self, seconds: Optional[float] = None) -> Iterator[list[int]]:
-        """Each exact cover once, as the places of its options. A plain search in Python goes through all of them; where it meets none for a while, the
-        program is asked meanwhile whether there are any in the rest (`all_covers`). `TimeIsUp` where neither a cover nor the end comes in so many
-        seconds."""
+        """Each exact cover once, as the places of its options. A plain search in Python goes through all of them; where it meets none for a while,
+        the program is asked meanwhile whether there are any in the rest (`all_covers`). `TimeIsUp` where neither a cover nor the end comes in so
+        many seconds."""
         limit, program = checked_seconds(seconds), find_program()
         tree = Tree(cover_files.read_problem(self._numbered_text(self._numbered_lines())))
         kept = [place for place, option in enumerate(self) if self._is_kept(option)]
@@ -199,8 +204,10 @@ class Problem:
         found = cover_reason.Reason(text)
         if not found.holds(cover_files.read_problem(self._numbered_text(self._numbered_lines()))):
             raise ProgramError("the program's reason doesn't hold", status)
-        items = (*self.primary, *self.secondary)
-        weights, *rooms = ({items[int(name)]: number for name, number in some.items()}
+        items: dict[bytes, Hashable] = {b"%d" % number: item for number, item in enumerate((*self.primary, *self.secondary))}
+        kept = [place for place, option in enumerate(self) if self._is_kept(option)]
+        items.update((name, Clique(tuple(kept[number] for number in numbers))) for name, numbers in found.cliques.items())
+        weights, *rooms = ({items[name]: number for name, number in some.items()}
                            for some in (found.weights, found.needs, found.rooms, found.full_needs, found.full_rooms))
         return Reason(found.modulus or None, weights, *rooms)
 
@@ -331,8 +338,8 @@ def want_list(options: object) -> None:
 def option_in(option: Iterable[Word], place: int) -> tuple[Word, ...]:
     """An option of a list; `ProblemError` where it is one text or a dict, of which letters or keys would be the items."""
     if isinstance(option, (str, bytes, Mapping)):
-        what = "a dict" if isinstance(option, Mapping) else f"the text {option!r}"
-        raise ProblemError(f"option {place} is {what}: a list of items is expected, as [{'item' if isinstance(option, Mapping) else repr(option)}]", option=place)
+        what, item = ("a dict", "item") if isinstance(option, Mapping) else (f"the text {option!r}", repr(option))
+        raise ProblemError(f"option {place} is {what}: a list of items is expected, as [{item}]", option=place)
     return tuple(option)
 
 

@@ -7,14 +7,15 @@ import itertools
 import math
 import os
 from collections import Counter
-from collections.abc import Iterable, Iterator
+from collections.abc import Iterable, Iterator, Sequence
 from typing import Optional
 
 from .cover_files import MAX_ITEMS, MAX_NAME, MAX_OCCURRENCES, MAX_OPTIONS
 from .picture_base import cell_words
 from .puzzle_texts import Change, Puzzle
 
-# a cell by row and column; two names; the lengths of a line's blocks, None where they aren't known; the primary items, the secondary items and the options of a problem
+# a cell by row and column; two names; the lengths of a line's blocks, None where they aren't known; the primary items, the secondary items and the
+# options of a problem
 Cell = tuple[int, int]
 Pair = tuple[str, str]
 Blocks = Optional[list[int]]
@@ -178,7 +179,7 @@ def settle_all(rows: list[Line], columns: list[Line]) -> None:
                     others[place].known[k] = colour
 
 
-def line_names(rows: list[Blocks], columns: list[Blocks]) -> list[str]:
+def line_names(rows: Sequence[Blocks], columns: Sequence[Blocks]) -> list[str]:
     return [f"row{r}" for r in range(len(rows))] + [f"column{c}" for c in range(len(columns))]
 
 
@@ -188,7 +189,7 @@ def way_count(line: Line) -> int:
     return math.comb(spare + len(line.blocks), len(line.blocks))
 
 
-def nonogram(rows: list[Blocks], columns: list[Blocks]) -> Lists:
+def nonogram(rows: Sequence[Blocks], columns: Sequence[Blocks]) -> Lists:
     """Each row and each column whose blocks are told is filled in one of its ways; a cell's colour is black or white, and both its lines agree on it.
     Where these ways are too many, those are left out that a cell contradicts which one line alone settles."""
     names = cell_names(len(rows), len(columns))
@@ -206,7 +207,7 @@ def nonogram(rows: list[Blocks], columns: list[Blocks]) -> Lists:
     return told, list(names.values()), options
 
 
-def without_line(rows: list[Blocks], columns: list[Blocks]) -> list[Change]:
+def without_line(rows: Sequence[Blocks], columns: Sequence[Blocks]) -> list[Change]:
     """A nonogram without the numbers of each of its lines."""
     def other(kind: str, number: int) -> Puzzle:
         lines = [None if place == number else blocks for place, blocks in enumerate(rows if kind == "row" else columns)]

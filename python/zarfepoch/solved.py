@@ -14,8 +14,8 @@ The kinds are %KINDS%;
 Of each kind but timetables it is said whether the answer is the only one; --one leaves that out. Where there is no answer, it says why, if the
 program finds a reason without a search, and what may be mistyped: the puzzle is tried without each of its digits, sums or signs, for N seconds in all
 (5 where none are told). With --seconds N each search ends after N seconds; without, the first goes on until it is decided, and the one for another
-answer for 10 seconds. --all draws each solution, and --count says how many there are, or how many were found in N seconds. A timetable is looked for by
-many short searches first, since one in which the first choices are wrong seldom ends. --problem FILE keeps the problem that the program gets.
+answer for 10 seconds. --all draws each solution, and --count says how many there are, or how many were found in N seconds. A timetable is looked for
+by many short searches first, since one in which the first choices are wrong seldom ends. --problem FILE keeps the problem that the program gets.
 
 With --json FILE an object with "options", and perhaps "primary", all other items where it isn't there, and "secondary" is read, in whose options a list of
 two is an item with its colour; the answer is printed as a list of places, or null. Items and colours are texts or numbers. FILE may be -, the
@@ -31,9 +31,11 @@ import contextlib
 import os
 import sys
 import textwrap
+import threading
 import time
 from argparse import Namespace
 from collections import Counter
+from collections.abc import Iterator
 from typing import Optional
 
 from . import generate
@@ -57,11 +59,17 @@ from .search_parts import Tree
 from .svg_paper import Paper
 from .timetable_plans import Plan, read_plan
 from .timetables import Timetable
+from .weeks import in_order
 from .why_none import in_words, told_lines
+
+# a lesson by its title and its classes, in a period
+Time = tuple[tuple[str, frozenset[str]], str]
 
 NO_ANSWER = 4
 # how long another answer is looked for where no time is told
 OTHER_SECONDS = 10.0
+# every so many seconds it is said that a search goes on, and so many lessons that moved are told
+WAITING, MOST_MOVED = 10.0, 20
 
 
 def command_line() -> argparse.ArgumentParser:
@@ -107,9 +115,30 @@ def asked_of_school(program: str, timetable: Timetable, given: Namespace) -> Ans
     return answer
 
 
+@contextlib.contextmanager
+def told_waiting() -> Iterator[None]:
+    """Says every ten seconds that a search goes on, and at the end how long it took."""
+    began, over = time.monotonic(), threading.Event()
+
+    def tell() -> None:
+        while not over.wait(WAITING):
+            complain(f"still looking, for {time.monotonic() - began:.0f} seconds now")
+
+    thread = threading.Thread(target=tell, daemon=True)
+    thread.start()
+    try:
+        yield
+    finally:
+        over.set()
+        thread.join()
+    if time.monotonic() - began >= WAITING:
+        complain(f"this took {time.monotonic() - began:.0f} seconds")
+
+
 def asked(program: str, puzzle: Puzzle, given: Namespace) -> Answered:
     """The program's answer; ends the command where there is none in time, or the program fails."""
-    found = asked_of_school(program, puzzle, given) if isinstance(puzzle, Timetable) else answered(program, puzzle.text(), given.seconds)
+    with told_waiting():
+        found = asked_of_school(program, puzzle, given) if isinstance(puzzle, Timetable) else answered(program, puzzle.text(), given.seconds)
     if found.status == 4:
         stop(f"no answer: {own_words(found.why)}" if found.why else "no answer", NO_ANSWER)
     if not (found.status == 0 and found.text.startswith(b"cover ") or (found.status, found.text) == (1, b"none\n")):
@@ -208,13 +237,26 @@ def listed(program: str, puzzle: Puzzle, problem: Problem, given: Namespace) -> 
 
 
 def kept_words(timetable: Timetable, answer: bytes, plan: Plan) -> str:
-    """How many times of lessons stay in their periods, in a sentence, whichever of a lesson's times each is."""
+    """How many times of lessons stay in their periods, whichever of a lesson's times each is, and which lessons moved."""
     lines = set(answer.decode("utf-8").splitlines()[1:])
     chosen = [one for one in timetable.ranked if one.lessons and " ".join(one.option) in lines]
     lessons = [timetable.lessons[name] for one in chosen for name in one.lessons]
     found = Counter(zip(((lesson.title, frozenset(lesson.classes)) for lesson in lessons), (period for one in chosen for period in one.begins)))
-    before = Counter((lesson, place.period) for lesson, places in plan.items() for place in places)
-    return f"{sum((found & before).values())} of {sum(found.values())} times of lessons stay in their periods"
+    own = {(lesson.title, frozenset(lesson.classes)) for lesson in timetable.lessons.values()}
+    before = Counter((lesson, place.period) for lesson, places in plan.items() for place in places if lesson in own)
+    staying = f"{sum((found & before).values())} of {sum(found.values())} times of lessons stay in their periods"
+    return "\n".join([staying, *moved_lines(before - found, found - before)])
+
+
+def moved_lines(left: Counter[Time], taken: Counter[Time]) -> list[str]:
+    """For each lesson that moved a line with the periods that it left, and those that it has in their place."""
+    lessons = list(dict.fromkeys(lesson for lesson, _ in [*taken.elements(), *left.elements()]))
+    lines = []
+    for title, classes in lessons:
+        was, has = (in_order([period for lesson, period in some.elements() if lesson == (title, classes)]) for some in (left, taken))
+        change = f"from {' '.join(was)} to {' '.join(has)}" if was and has else f"new at {' '.join(has)}" if has else f"no longer at {' '.join(was)}"
+        lines.append(f"  {title}{' of ' + '+'.join(sorted(classes)) if classes else ''}: {change}")
+    return lines[:MOST_MOVED] + ([f"  and {len(lines) - MOST_MOVED} more lessons"] if len(lines) > MOST_MOVED else [])
 
 
 def in_parts(given: Namespace, number: int, count: int) -> Namespace:

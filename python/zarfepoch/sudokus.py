@@ -100,8 +100,9 @@ class Sudoku:
 
     def changes(self) -> list[Change]:
         """The sudoku without each of its digits, and without the sum of each cage."""
-        return self.without_digits(self.cells()) + [Change(f"without the sum {total} of the cage that begins in {cell_words(cells[0])}", functools.partial(self.without_sum, k))
-                         for k, (cells, total) in enumerate(self.cages)]
+        sums = [Change(f"without the sum {total} of the cage that begins in {cell_words(cells[0])}", functools.partial(self.without_sum, k))
+                for k, (cells, total) in enumerate(self.cages)]
+        return self.without_digits(self.cells()) + sums
 
     def without_digits(self, cells: Iterable[Cell]) -> list[Change]:
         """The sudoku without the digit of each of these cells that has one."""

@@ -142,6 +142,7 @@ class Timetable(Kind):
     def lessons(self) -> dict[str, None]:
         return dict.fromkeys(lesson for option in self.options for lesson, _ in self.parted(option))
 
+    @functools.lru_cache(maxsize=None)
     def periods(self) -> list[str]:
         """All periods, by their numbers where these are numbers, else as a comment tells them."""
         periods = list(dict.fromkeys(name.rsplit("-", 1)[1] for option in self.options for _, names in self.parted(option) for name in names))

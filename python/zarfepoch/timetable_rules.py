@@ -46,6 +46,15 @@ class School:
         return rule is None or rule.periods is None or period in rule.periods
 
 
+def rule_words(school: School, who: str) -> str:
+    """What the rules say of somebody."""
+    rule = school.rules[who]
+    parts = [f"can be had in {told_periods(rule.periods) or 'no period'}" if rule.periods is not None else "",
+             f"at most {rule.a_day} periods a day" if rule.a_day else "",
+             "" if rule.holes is None else "no holes" if rule.holes == 0 else f"at most {rule.holes} holes"]
+    return f"{who} (line {rule.line} of the rules): {', '.join(filter(None, parts))}"
+
+
 @dataclass
 class Row:
     """A row of the table of rules."""

@@ -11,7 +11,7 @@ from .always_busy import Shortage, always_busy
 from .fault_words import plural
 from .puzzle_texts import no_cover, refuse
 from .timetable_files import Lesson, Together
-from .timetable_rules import School
+from .timetable_rules import rule_words, School
 from .weeks import day_and_number, day_of, in_order, in_week, told_periods
 
 
@@ -158,7 +158,7 @@ def want_room_in_week(school: School, hours: list[Hour]) -> None:
         a_day = f", at most {lesson.a_day} on a day" if lesson.a_day else ""
         no_timetable(school, [lesson], f"{lesson.title} is given {plural(lesson.times, 'time')}{a_day}, each in {plural(lesson.length, 'period')} "
                      f"running on one day, and its periods have room for {sum(days.values()) + len(hours) - len(free)}: "
-                     f"{told_periods([*free[0].periods(), *lesson.fixed])}")
+                     f"{told_periods([*free[0].periods(), *lesson.fixed])}{limits_of(school, hours)}")
 
 
 def followers(school: School) -> dict[str, Lesson]:
@@ -258,6 +258,13 @@ def named_some(hours: list[Hour]) -> str:
     return ", ".join(names[:6]) + (f" and {len(names) - 6} more" if len(names) > 6 else "")
 
 
+def limits_of(school: School, hours: list[Hour]) -> str:
+    """What the rules say of the periods of those who have these lessons, and of their rooms, for the end of a message."""
+    people = dict.fromkeys(who for hour in hours for who in hour.lesson.people())
+    limited = [who for who in people if who in school.rules and school.rules[who].periods is not None]
+    return "".join(f"; {rule_words(school, who)}" for who in limited[:4])
+
+
 def seats_of(hours: list[Hour]) -> list[Hour]:
     """The times that an hour takes one place: as often as it has periods."""
     return [hour for hour in hours for _ in range(hour.lesson.length)]
@@ -288,7 +295,7 @@ def want_days_enough(school: School, who: str, hours: list[Hour]) -> None:
     seats = seats_of(hours)
     if len(seats) > room:
         no_timetable(school, [hour.lesson for hour in hours], f"{who} has {len(seats)} periods of lessons ({named_some(hours)}), and at most {most} a "
-                     f"day on {plural(len(days), 'day')}, so room for {room}")
+                     f"day (line {rule.line} of the rules) on {plural(len(days), 'day')}, so room for {room}")
 
 
 def busy_of(school: School, who: str, hours: list[Hour]) -> set[str]:
@@ -300,7 +307,7 @@ def busy_of(school: School, who: str, hours: list[Hour]) -> set[str]:
     except Shortage as short:
         wanting = [seats[k] for k in short.wanting]
         no_timetable(school, [hour.lesson for hour in wanting], f"{who} has {len(wanting)} periods of lessons ({named_some(wanting)}), and of the "
-                     f"week only {plural(len(short.places), 'period')} for them: {told_periods(short.places)}")
+                     f"week only {plural(len(short.places), 'period')} for them: {told_periods(short.places)}{limits_of(school, wanting)}")
 
 
 def busy_rooms(school: School, hours: list[Hour]) -> set[tuple[str, str]]:
@@ -313,7 +320,7 @@ def busy_rooms(school: School, hours: list[Hour]) -> set[tuple[str, str]]:
         rooms = list(dict.fromkeys(room for room, _ in short.places))
         no_timetable(school, [hour.lesson for hour in wanting], f"{len(wanting)} periods of lessons ({named_some(wanting)}) want the "
                      f"{'rooms' if len(rooms) > 1 else 'room'} {', '.join(rooms[:8])}, free for them in {plural(len(short.places), 'period')}"
-                     + (" together" if len(rooms) > 1 else ""))
+                     + (" together" if len(rooms) > 1 else "") + limits_of(school, wanting))
 
 
 def always(school: School, blocks: list[Block]) -> set[tuple[str, str]]:
