@@ -196,6 +196,8 @@ pub struct Ended {
     pub searches: u64,
     /// How many visits the longest of them made.
     pub visits: u64,
+    /// How many the longest one of a prefix with an option made.
+    pub visits_below: u64,
 }
 
 /// A gate that lets all pass, and counts searches and their visits.
@@ -203,6 +205,7 @@ pub struct Ended {
 struct Counting {
     begun: AtomicU64,
     most: AtomicU64,
+    most_below: AtomicU64,
 }
 
 impl Gate for Counting {
@@ -216,8 +219,11 @@ impl Gate for Counting {
         self.begun.fetch_add(1, Ordering::SeqCst);
     }
 
-    fn searched(&self, _finding: &Finding, visits: u64) {
+    fn searched(&self, finding: &Finding, visits: u64) {
         self.most.fetch_max(visits, Ordering::SeqCst);
+        if !finding.prefix().is_empty() {
+            self.most_below.fetch_max(visits, Ordering::SeqCst);
+        }
     }
 }
 
@@ -273,6 +279,7 @@ fn play<J: Run + Send + Sync, N: CellName + Send + Sync, R: Threads + Wait + Clo
     let gate = Counting {
         begun: AtomicU64::new(0),
         most: AtomicU64::new(0),
+        most_below: AtomicU64::new(0),
     };
     let end = run_node(rt, alloc, &cell, problem, link, plan, &gate);
     let (cause, losses) = (end.end.cause, end.end.losses);
@@ -289,6 +296,7 @@ fn play<J: Run + Send + Sync, N: CellName + Send + Sync, R: Threads + Wait + Clo
         agains: agains(entries),
         searches: gate.begun.load(Ordering::SeqCst),
         visits: gate.most.load(Ordering::SeqCst),
+        visits_below: gate.most_below.load(Ordering::SeqCst),
     })
 }
 

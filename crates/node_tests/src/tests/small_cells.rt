@@ -87,8 +87,8 @@ static PAIRS: Row = (
     None,
 );
 
-/// Of a search of 125,000 visits the first jobs are small, since nothing is known of how long they take: with 200 visits each there would be
-/// more than 600.
+/// The jobs below the root are small at first, of two visits, since nothing is known of how long they take; once that is known they grow. (With
+/// more fuel the first search would see that there is no cover.)
 #[test]
 fn jobs_grow(rt: HostRuntime) -> Result<(), Fail> {
     let script = root_after(rt.alloc(), 0)?;
@@ -98,16 +98,16 @@ fn jobs_grow(rt: HostRuntime) -> Result<(), Fail> {
             ..SOON
         },
         names: 1_000_000,
-        fuel: 1_000,
+        fuel: 10,
         ..ROOM
     };
     let ended = run_alone_on(&rt, rt.alloc(), &PAIRS, script, room)?;
     assert_eq!(rt; ended.cause, EndCause::Silence);
     assert!(rt;
-        ended.searches < 300 && ended.visits > 1_000,
+        ended.visits_below > 10,
         "{} searches, of {} visits at most",
         ended.searches,
-        ended.visits
+        ended.visits_below
     );
     Ok(())
 }
