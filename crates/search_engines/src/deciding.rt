@@ -1,10 +1,12 @@
-//! The answer to a problem, whatever number of visits it takes: by a short search, by a reason that excludes covers, or by a long search.
+//! The answer to a problem, whatever number of visits it takes: by a short search, by a reason that excludes covers, or by a long search and a
+//! walk that asks a learner.
 
 ghost use Rattle.std.specs.Prelude.{◌≡◌, [], true, false, None, IfOk, IfSome, MatchOption};
 ghost use Rattle.cover_problem.specs.Search.{first};
 ghost use Rattle.dlx_reader.specs.Writing.{IsWritable};
 ghost use Rattle.search_engines.specs.Alone.{answer_by};
 
+use crate::asking::searched_and_asked;
 use crate::stopwatch::Stopwatch;
 use brancher::{ROOM, Tables, Watch};
 use cover_problem::{Answer, Problem, in_order};
@@ -111,7 +113,8 @@ pub fn search_until<V: Watch>(
 
 /// Returns the answer of a problem: its first cover, with its options in the order of the file, or that there is none; no answer where the
 /// watch stopped the search, or it and the search for a reason. A search that lasts longer than a tenth of a second is begun again under
-/// the watch, if no reason is found that excludes a cover. The only error is out of memory.
+/// the watch, if no reason is found that excludes a cover; from then on a walk to the first cover that asks a learner has half of the time.
+/// The only error is out of memory.
 pub fn answer_until<V: Watch, C: Clock>(
     clock: &C,
     alloc: Global,
@@ -132,7 +135,7 @@ pub fn answer_until<V: Watch, C: Clock>(
         return Ok(Some(Answer::NoCover));
     }
     // (from the start once more: what the short search did is a tenth of a second, little beside what may follow)
-    searched(alloc, &tables, watch, &mut Untraced)
+    searched_and_asked(clock, alloc, &tables, watch)
 }
 
 /// Returns the answer that `answer_until` gives under a watch that stops nothing, so there is always one.

@@ -3,6 +3,7 @@
 #![tactic(auto)]
 
 mod alone;
+mod asking;
 mod certifying;
 mod check;
 mod deciding;
@@ -22,6 +23,7 @@ mod telling;
 mod timed_watch;
 mod tree_estimate;
 mod unanswered;
+mod walk_watch;
 mod within;
 
 pub use alone::{AloneEnd, alone_engine};
