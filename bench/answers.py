@@ -1,7 +1,7 @@
 #!/usr/bin/env python3
 """Times `answer` beside the best of the commands that go one way alone.
 
-    python3 bench/answers.py [--seconds N] [--times N] [--processors N] [FILE ..]
+    python3 bench/answers.py [--seconds N] [--times N] [--processors N] [--peers] [FILE ..]
 
 The files are those of instances.py, two of each kind of learning.py, and any that are named. On each the least wall time of N runs (default 3) is taken of
 `answer`, `alone`, `alone --unlimited`, `learn` and `solve --nodes 1 --workers 4`, each for N seconds at most (default 10). Each file has a row, with a dash
@@ -10,8 +10,11 @@ geometric mean of these, over the files on which the best took more than a tenth
 slower than `alone` on the others that it decides in a tenth of a second, in the mean and at most. A cover and a `none` for one file are a mistake. All
 run on so many processors, as far as there are so many, where a number is given: on one the two lanes of `answer` take turns.
 
-It wants the program: (cd crates/solve_cli && rt run -- --version) builds it. The exit status is 0, 1 where two answers differ, 2 for a mistake on the
-command line or where there is no program.
+With --peers `answer` is beside other programs in place of our own commands, all by wall time: clasp behind gringo with one thread and with four, CaDiCaL, and
+HiGHS, which reads no colours. The line below the table says how many files each answered, and on how many it was first.
+
+It wants the program: (cd crates/solve_cli && rt run -- --version) builds it; --peers wants gringo, clasp, cadical and SciPy. The exit status is 0, 1 where
+two answers differ, 2 for a mistake on the command line or where there is no program.
 """
 from __future__ import annotations
 
@@ -22,11 +25,13 @@ import subprocess
 import sys
 import tempfile
 import time
-from collections.abc import Iterator
+from collections.abc import Callable, Iterator
 from typing import Optional
 
 import finding
 import learning
+from encodings_of_peers import formula_of, program_of, read
+from implied import highs
 
 HERE = os.path.dirname(os.path.abspath(__file__))
 sys.path.insert(0, os.path.join(HERE, "..", "scripts"))
@@ -79,15 +84,83 @@ def row(file: str, seconds: int, times: int) -> tuple[list[tuple[Optional[bool],
     return told, len(found) < 2
 
 
+def by_clasp(file: str, seconds: int, threads: str) -> Optional[bool]:
+    """Whether clasp finds a cover, by so many threads; gringo grounds for it."""
+    program = "\n".join(program_of(file)).encode("ascii")
+    try:
+        ground = subprocess.run(["gringo", "-"], input=program, capture_output=True, timeout=seconds).stdout
+        return said(subprocess.run(["clasp", "-q2,2", "-t", threads], input=ground, capture_output=True, timeout=seconds).stdout)
+    except subprocess.TimeoutExpired:
+        return None
+
+
+def by_cadical(file: str, seconds: int) -> Optional[bool]:
+    """Whether CaDiCaL finds a cover."""
+    formula = "\n".join(formula_of(file)).encode("ascii")
+    try:
+        return said(subprocess.run(["cadical", "-q", "-n"], input=formula, capture_output=True, timeout=seconds).stdout)
+    except subprocess.TimeoutExpired:
+        return None
+
+
+def by_highs(file: str, seconds: int) -> Optional[bool]:
+    """Whether HiGHS finds a cover; None where options have colours."""
+    has_colours = any(colour for option in read(file).options for _, colour in option)
+    return None if has_colours else highs(file, seconds)[0]
+
+
+def said(text: bytes) -> Optional[bool]:
+    """What a program of the kind that solves clauses says."""
+    words = text.split()
+    return True if b"SATISFIABLE" in words else False if b"UNSATISFIABLE" in words else None
+
+
+PEERS: dict[str, Callable[[str, int], Optional[bool]]] = {
+    "answer": lambda file, seconds: asked(["answer"], file, seconds)[0],
+    "clasp": lambda file, seconds: by_clasp(file, seconds, "1"),
+    "clasp, 4 threads": lambda file, seconds: by_clasp(file, seconds, "4"),
+    "CaDiCaL": by_cadical,
+    "HiGHS": by_highs,
+}
+
+
+def beside_peers(files: Iterator[str], seconds: int) -> bool:
+    """Prints a row of wall times for each file, who answered and who was first. Whether the answers agree."""
+    answered, first, agree = dict.fromkeys(PEERS, 0), dict.fromkeys(PEERS, 0), True
+    print(f"| File | Answer | {' | '.join(PEERS)} |\n" + "|" + "---|" * (len(PEERS) + 2))
+    for file in files:
+        took: dict[str, float] = {}
+        found: set[bool] = set()
+        for name, ask in PEERS.items():
+            began = time.perf_counter()
+            answer = ask(file, seconds)
+            if answer is not None:
+                took[name], found = time.perf_counter() - began, found | {answer}
+                answered[name] += 1
+        if took:
+            first[min(took, key=lambda name: took[name])] += 1
+        agree &= len(found) < 2
+        word = "DIFFER" if len(found) > 1 else "cover" if True in found else "none" if found else "-"
+        cells = " | ".join(f"{took[name]:.3f}" if name in took else "-" for name in PEERS)
+        print(f"| {os.path.basename(file).removesuffix('.dlx')} | {word} | {cells} |", flush=True)
+    print("answered: " + ", ".join(f"{name} {count}" for name, count in answered.items()))
+    print("first: " + ", ".join(f"{name} {count}" for name, count in first.items()))
+    return agree
+
+
 def main() -> int:
     words = parser_of(__doc__)
     words.add_argument("--seconds", metavar="N", type=number_from_one, default=10, help="for each run (default 10)")
     words.add_argument("--times", metavar="N", type=number_from_one, default=3, help="how many runs of each (default 3)")
     words.add_argument("--processors", metavar="N", type=number_from_one, help="on how many processors all run (default all)")
+    words.add_argument("--peers", action="store_true", help="beside other programs")
     words.add_argument("files", metavar="FILE", nargs="*", type=path_of, help="a further file")
     given = words.parse_args()
     want_program(SOLVE_CLI)
     os.sched_setaffinity(0, sorted(os.sched_getaffinity(0))[:given.processors])
+    if given.peers:
+        with tempfile.TemporaryDirectory() as folder:
+            return 0 if beside_peers(files_of(folder, given.files), given.seconds) else 1
     print(f"| File | Answer | {' | '.join(' '.join(way) for way in WAYS)} | Ratio |")
     print("|" + "---|" * (len(WAYS) + 3))
     ratios, later, agree = [], [], True

@@ -28,6 +28,7 @@ from collections.abc import Callable
 from typing import Optional
 
 import finding
+from encodings_of_peers import read
 from learning import cadical, clasp, timed, Told
 
 HERE = os.path.dirname(os.path.abspath(__file__))
@@ -131,21 +132,18 @@ def asked(words: list[str], file: str, seconds: int) -> Told:
 
 
 def highs(file: str, seconds: int) -> Told:
-    """The same of HiGHS, an integer program: each primary item once, each secondary one at most once."""
+    """The same of HiGHS, an integer program: each primary item once, each secondary one at most once. No option may have colours."""
     from scipy.optimize import Bounds, LinearConstraint, milp    # type: ignore[import]
     from scipy.sparse import lil_matrix    # type: ignore[import]
-    with open(file, encoding="ascii") as opened:
-        head, *options = [line.split() for line in opened]
-    names = [name for name in head if name != "|"]
-    place = {name: number for number, name in enumerate(names)}
-    matrix = lil_matrix((len(names), len(options)))
+    primary, secondary, options = read(file)
+    place = {name: number for number, name in enumerate([*primary, *secondary])}
+    matrix = lil_matrix((len(place), len(options)))
     for number, option in enumerate(options):
-        for name in option:
+        for name, _ in option:
             matrix[place[name], number] = 1
-    count = head.index("|") if "|" in head else len(head)
     begun = time.process_time()
     found = milp([0] * len(options), integrality=[1] * len(options), bounds=Bounds(0, 1), options={"time_limit": seconds},
-                 constraints=LinearConstraint(matrix.tocsr(), [1] * count + [0] * (len(names) - count), 1))
+                 constraints=LinearConstraint(matrix.tocsr(), [1] * len(primary) + [0] * len(secondary), 1))
     return {0: True, 2: False}.get(found.status), time.process_time() - begun
 
 

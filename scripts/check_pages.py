@@ -15,7 +15,7 @@ bugs and the comments of Rattle; names of files count too.
 
 The target of each link exists, and its heading. Outside of code no page uses a word of REFUSED. No comment of Rattle uses a word of
 REFUSED_IN_COMMENTS.
-The options in the tables of README, SOLVE and SIMULATE are those of the program's help, and README has a row for each command. The
+The options in the tables of COMMANDS, SOLVE and SIMULATE are those of the program's help, and COMMANDS has a row for each command. The
 version is the same in the program, in the package for Python, in CITATION.cff and at the top of CHANGELOG.md.
 
 Each mistake is printed with its page and line, and a last line counts them. The exit status is 1 if there is any, else 0, or 2 for a
@@ -44,6 +44,8 @@ REFUSED_IN_COMMENTS = ("anew", "want of", "tells whether", "tells of", "told by"
 COMMENT_MARKS = {".rt": "//", ".antt": "--"}
 # the command whose options a page's table lists, and the file that has the help
 TABLES = {"docs/SOLVE.md": "solve", "docs/SIMULATE.md": "simulate"}
+# the page that has a table of the commands
+ALL_COMMANDS = "docs/COMMANDS.md"
 # where the version stands, each with what stands around it; it is the same in all
 VERSIONS = {
     "crates/command_line/src/commands.rt": r'^const VERSION: &str = "(.*)";$', "python/zarfepoch/__init__.py": r'^__version__ = "(.*)"$',
@@ -240,7 +242,7 @@ def options_in_page(page: str, name: str) -> Iterator[tuple[int, str, set[str]]]
         text = file.read()
     if name in TABLES:
         yield 1, TABLES[name], set(re.findall(r"^\| `--([\w-]+)`", text, re.MULTILINE))
-    elif name == "README.md":
+    elif name == ALL_COMMANDS:
         for number, row in found_in(text, r"(?m:^)\| `solve_cli (\w+ [^`]*)`"):
             yield number, row.split()[0], set(re.findall(r"--([\w-]+)", row))
 
@@ -251,7 +253,7 @@ def options_wrong_in(page: str, name: str) -> Iterator[Mistake]:
     for number, command, options in rows:
         for option in sorted(options ^ helped.get(command, set())):
             yield number, f"--{option} of {command} is not in the {'help' if option in options else 'table'}"
-    if name == "README.md":
+    if name == ALL_COMMANDS:
         for command in sorted(commands() - {command for _, command, _ in rows}):
             yield 1, f"{command} is not in the table"
 

@@ -440,7 +440,8 @@ def refusals(trial: Drawing) -> None:
     paths = [cover, *(trial.path(f"behind-{place}", content(cover) + line) for place, line in enumerate(behind))]
     texts = [trial.python("scripts/draw.py", letters_file, path).stdout for path in paths]
     trial.expect("an audit's line and what an answer rests on are passed over", texts[0] and len(set(texts)) == 1)
-    reasons = (b"", b"weights modulo 2\nweigh 1 a\n", b"by a run of 2 workers\n")
+    cliques = b"cliques\nclique k 0 1\ntoo little room\nneed 1 a\n"
+    reasons = (b"", b"weights modulo 2\nweigh 1 a\n", cliques, b"by a run of 2 workers\n")
     nones = [trial.path(f"none-{place}", b"none\n" + reason) for place, reason in enumerate(reasons)]
     texts = [trial.python("scripts/draw.py", letters_file, path).stdout for path in nones]
     trial.expect("a reason behind none is passed over", texts[0] and len(set(texts)) == 1)

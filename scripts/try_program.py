@@ -133,6 +133,89 @@ def certificates(folder: str) -> None:
     expect("no line for just enough room", said[0].startswith(b"none\njust enough room\n") and said[1].startswith(b"no certificate: ") and said[2] == 3)
     expect("no file for just enough room", not os.path.exists(path))
     expect("the full disk is still there", os.path.exists("/dev/full"))
+    kept_certificates(os.path.join(folder, "kept"))
+    uncreated_certificates(os.path.join(folder, "uncreated"))
+    killed_certificate(os.path.join(folder, "killed"))
+    piped_certificates(os.path.join(folder, "piped"))
+
+
+def content(path: str) -> bytes:
+    """The bytes of a file."""
+    with open(path, "rb") as opened:
+        return opened.read()
+
+
+def put(path: str, text: bytes) -> str:
+    """Writes a file, and returns its path."""
+    with open(path, "wb") as opened:
+        opened.write(text)
+    return path
+
+
+def kept_certificates(folder: str) -> None:
+    """A file that is there is replaced by a whole certificate, and by nothing else; no part of one is left."""
+    os.mkdir(folder)
+    path, link = put(os.path.join(folder, "out"), b"old\n"), os.path.join(folder, "link")
+    os.symlink("out", link)
+    letters, langford = (os.path.join(TOP, "examples", name) for name in ("letters.dlx", "langford-5.dlx"))
+    for words in (("learn", letters), ("alone", letters, "--unlimited"), ("why", letters), ("learn", search_of_years(folder), "--seconds", "1")):
+        status = run(*words, "--certificate", path)[2]
+        expect(f"{words} leaves a file as it was", status in (0, 4) and content(path) == b"old\n")
+    expect("a refused problem leaves it as it was", run("learn", "/dev/null", "--certificate", path)[2] == 3 and content(path) == b"old\n")
+    expect("a link is followed", run("learn", langford, "--certificate", link)[1] == f"certificate right: {link}\n".encode() and os.path.islink(link))
+    expect("a file is replaced", content(path).startswith(b"none\nclauses ") and run("check", langford, path)[2] == 0)
+    expect("no part is left", sorted(os.listdir(folder)) == ["link", "long", "out"])
+
+
+def uncreated_certificates(folder: str) -> None:
+    """Why a certificate can't be made; the problem's file isn't harmed, by whatever name."""
+    os.mkdir(folder)
+    with open(os.path.join(TOP, "examples", "langford-5.dlx"), "rb") as opened:
+        text = opened.read()
+    file, link, locked = put(os.path.join(folder, "file"), text), os.path.join(folder, "link"), put(os.path.join(folder, "locked"), b"old\n")
+    os.symlink(file, link)
+    os.chmod(locked, 0o400)
+    causes = [(file, "it is the problem's file"), (link, "it is the problem's file"), (os.path.join(folder, ".", "file"), "it is the problem's file"),
+              (os.path.join(folder, "none", "out"), "no such folder"), (os.path.join(file, "out"), "a part of its path is no directory"),
+              (folder, "is a directory"), (os.path.join(folder, "x" * 252), "the name is too long")]
+    causes += [(locked, "permission denied")] if os.geteuid() else []
+    for path, cause in causes:
+        expect(f"no certificate: {cause}", run("learn", file, "--certificate", path) == (b"", f"cannot create: {path}: {cause}\n".encode(), 3))
+    with open(file, "rb") as opened:
+        ran = subprocess.run([PROGRAM, "learn", "-", "--certificate", file], stdin=opened, capture_output=True)
+    expect("nor standard input's file", (ran.stdout, ran.stderr) == (b"", f"cannot create: {file}: it is the problem's file\n".encode()))
+    expect("all are as they were", content(file) == text and content(locked) == b"old\n" and sorted(os.listdir(folder)) == ["file", "link", "locked"])
+
+
+def killed_certificate(folder: str) -> None:
+    """A run that is killed leaves a part under a name that no other run takes, and the file as it was."""
+    os.mkdir(folder)
+    path, long = put(os.path.join(folder, "out"), b"old\n"), search_of_years(folder)
+    for number in 1, 2:
+        with subprocess.Popen([PROGRAM, "learn", long, "--certificate", path], stdout=subprocess.DEVNULL, stderr=subprocess.DEVNULL) as process:
+            began = time.monotonic()
+            while not os.path.exists(f"{path}.part{number}") and time.monotonic() - began < 30:
+                time.sleep(0.01)
+            process.kill()
+    expect("killed runs leave parts", sorted(os.listdir(folder)) == ["long", "out", "out.part1", "out.part2"] and content(path) == b"old\n")
+    langford = os.path.join(TOP, "examples", "langford-5.dlx")
+    expect("a run beside their parts", run("learn", langford, "--certificate", path)[2] == 1 and content(path).startswith(b"none\nclauses "))
+    expect("their parts stay", sorted(os.listdir(folder)) == ["long", "out", "out.part1", "out.part2"])
+
+
+def piped_certificates(folder: str) -> None:
+    """A pipe gets the lines as they are written, and a file that is standard output is replaced by a whole certificate."""
+    os.mkdir(folder)
+    langford, device = os.path.join(TOP, "examples", "langford-5.dlx"), "/dev/stdout"
+    untested = f"certificate not tested: {device}\n".encode()
+    for words in (("learn", langford), ("alone", langford, "--unlimited")):
+        out, errors, status = run(*words, "--certificate", device)
+        expect(f"a pipe by {words[0]}", (errors, status) == (untested, 1) and sorted(out.split(b"none\n"))[:2] == [b"", b""])
+        path = os.path.join(folder, words[0])
+        with open(path, "wb") as opened:
+            told = run(*words, "--certificate", device, stdout=opened)
+        expect(f"redirected by {words[0]}", told[1:] == (f"certificate right: {device}\n".encode(), 1) and run("check", langford, path)[2] == 0)
+    expect("no part is left of what was redirected", sorted(os.listdir(folder)) == ["alone", "learn"] and os.path.islink(device))
 
 
 def certified(folder: str, name: str, words: tuple[str, ...], expected: str) -> None:

@@ -20,15 +20,15 @@ pub enum CertificateFate {
     Unneeded,
     /// It was read back and is right: there is no exact cover.
     Right,
-    /// Its file can't be made, or is the problem's.
-    Uncreated,
+    /// Its file can't be made, for this cause.
+    Uncreated(&'static str),
     /// It can't be written: the device may be full.
     Unwritten,
     /// No line of a certificate says what the answer rests on.
     Unsayable,
     /// It was written, and can't be read back, as from a pipe.
     Unread,
-    /// There is no memory to test it.
+    /// There is no memory to make its file, or to test it.
     Untested,
     /// It was read back, and this line is wrong.
     Wrong(u64),
@@ -49,7 +49,7 @@ impl CertificateFate {
         let (written, status) = match self {
             CertificateFate::Unneeded => return status,
             CertificateFate::Right => (writeln!(sink, "certificate right: {name}"), status),
-            CertificateFate::Uncreated => (writeln!(sink, "cannot create: {name}"), 3),
+            CertificateFate::Uncreated(why) => (writeln!(sink, "cannot create: {name}: {why}"), 3),
             CertificateFate::Unwritten => (writeln!(sink, "cannot write: {name}"), 3),
             CertificateFate::Unsayable => (writeln!(sink, "no certificate: {NO_LINE}"), 3),
             CertificateFate::Unread => {

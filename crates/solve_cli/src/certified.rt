@@ -1,21 +1,19 @@
 //! Runs that write a certificate where there is no cover, and test it before they call it right.
 
-use crate::{learner_settings, limits_of, line_style, open, open_file, unanswered, why_unlearned};
-use certificate_writer::{
-    CaseWriter, CertificateFate, CertifyingWatch, ClauseWriter, test_written,
-};
+use crate::certificate_place::CertificatePlace;
+use crate::{learner_settings, limits_of, line_style, open, unanswered, why_unlearned};
+use certificate_writer::{CaseWriter, CertificateFate, CertifyingWatch, ClauseWriter};
 use cover_engines::{
     EngineEnd, EngineFault, ProgressLog, SearchLimits, tell_end_of, tell_unanswered, tell_unopened,
 };
 use cover_problem::Problem;
-use dlx_reader::{CountedReader, CountedWriter, Read, Sink};
+use dlx_reader::{CountedWriter, Read, Sink};
 use learn_engine::{LearnWatch, learn_problem};
 use reason_engine::why_problem;
 use run_settings::{Mode, Request};
 use search_engines::{
     ProgressWatch, TimedWatch, read_whole, tell_fault_of, write_certified, write_certified_within,
 };
-use std::fs;
 use std::fs::File;
 
 /// How a run ended that wrote a certificate beside its answer.
@@ -69,14 +67,15 @@ fn certify<E: Sink>(
     errors: &mut E,
 ) -> u8 {
     let settings = &request.settings;
-    let Some(file) = create(rt, settings.file, name) else {
-        return CertificateFate::Uncreated.tell(name, 3, errors);
+    let (place, lines) = match CertificatePlace::create(rt, settings.file, name) {
+        Ok(made) => made,
+        Err(fate) => return fate.tell(name, 3, errors),
     };
     let CertifiedEnd {
         status,
         is_whole,
         is_begun,
-    } = run_into(rt, request, limits, &read.problem, file, errors);
+    } = run_into(rt, request, limits, &read.problem, lines, errors);
     let ended = match status {
         Ok(status) => Ok(EngineEnd {
             status,
@@ -89,13 +88,10 @@ fn certify<E: Sink>(
     let fate = match status {
         1 if !is_begun => CertificateFate::Unsayable,
         1 if !is_whole => CertificateFate::Unwritten,
-        1 => fate_of(rt, &read.problem, name),
+        1 => place.test(rt, &read.problem),
         _ => CertificateFate::Unneeded,
     };
-    if !fate.is_kept() && is_plain(rt, name) {
-        let _ = fs::remove_file(rt, name);
-    }
-    fate.tell(name, status, errors)
+    place.end(rt, fate).tell(name, status, errors)
 }
 
 /// Writes why there is no answer, if there is none. `why` has no limit that could be met.
@@ -207,32 +203,5 @@ fn learn_into<E: Sink>(
         status,
         is_whole: watch.writer.end(),
         is_begun: true,
-    }
-}
-
-/// Returns whether there is a plain file of this name, and no device or pipe: such a one is never removed, and what it took can't be read back.
-fn is_plain(rt: &HostRuntime, name: &str) -> bool {
-    match fs::metadata(rt, name) {
-        Ok(found) => found.is_file(),
-        Err(_) => false,
-    }
-}
-
-/// Makes the file that is to get a certificate, empty if there is one of this name; none where that can't be, or where it is the problem's.
-fn create(rt: &HostRuntime, problem: &str, name: &str) -> Option<File> {
-    if name == problem {
-        return None;
-    }
-    File::create(rt, name).ok()
-}
-
-/// Reads back a certificate that was written of a problem without a cover, and returns what became of it.
-fn fate_of(rt: &HostRuntime, problem: &Problem, name: &str) -> CertificateFate {
-    if !is_plain(rt, name) {
-        return CertificateFate::Unread;
-    }
-    match open_file(rt, name) {
-        Ok(file) => test_written(rt.alloc(), problem, &mut CountedReader::new(file)),
-        Err(_) => CertificateFate::Unread,
     }
 }

@@ -1,6 +1,7 @@
 //! `solve_cli`: finds an exact cover of a problem in the format of Knuth's DLX1, or shows that there is none.
 #![tactic(auto)]
 
+mod certificate_place;
 mod certified;
 
 ghost use Rattle.std.specs.Prelude.{◌≡◌, IfOk};
