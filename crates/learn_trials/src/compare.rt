@@ -65,15 +65,13 @@ pub fn compare(
     let (found, figures) = find_cover(alloc, problem, settings, &mut Unstopped)?;
     let mut searcher = Searcher::new(alloc, problem)?;
     let outcome = searcher.search(&[], u64::MAX);
-    let is_right =
-        is_same(&found, outcome) && is_first(alloc, problem, settings, outcome, searcher.found())?;
+    let is_right = is_same(&found, outcome)
+        && is_first(alloc, problem, settings, outcome, searcher.found())?;
     seen.problems = seen.problems.saturating_add(1);
     seen.covers = seen
         .covers
         .saturating_add(u64::from(outcome == Outcome::Cover));
     seen.conflicts = seen.conflicts.saturating_add(figures.conflicts);
-    seen.differ = seen
-        .differ
-        .saturating_add(u64::from(!is_right));
+    seen.differ = seen.differ.saturating_add(u64::from(!is_right));
     Ok(())
 }

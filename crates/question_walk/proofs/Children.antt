@@ -1,6 +1,5 @@
 -- The first cover of a prefix by what is known of its children.
 use Rattle.std.proofs.Common.{◌≡◌, ℕ, List, [], ◌∷◌, ◌++◌, true, Option, Some, None, refl, sym, ◌∙◌, ap, subst}
-use Rattle.std.specs.List.{AllByRecursion}
 use Rattle.cover_problem.specs.Branching.{branch_item, children, children_at}
 use Rattle.cover_problem.specs.Numbers.{is_in}
 use Rattle.cover_problem.specs.Prefix.{IsBarren, IsCoverOver, is_prefix}

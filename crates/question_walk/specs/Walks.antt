@@ -29,9 +29,10 @@ AreBarren problem prefixes = AllByRecursion (λ prefix. IsBarren problem prefix)
 abbrev pub children_from : Problem → List ℕ → ℕ → ℕ → List (List ℕ)
 children_from problem prefix item start = map (λ o. prefix ++ o ∷ []) (live_options_from problem prefix item start)
 
--- The first cover of the problem is that of the prefix, and the cover at hand, if there is one, extends it.
+-- The first cover of the problem is that of these options, which are a prefix, and the cover at hand, if there is one, extends them.
 pub record IsReached (problem : Problem) (prefix : List ℕ) (cover : Option (List ℕ)) : Type 0 where
   pub first : first problem [] ≡ first problem prefix
+  pub lawful : is_prefix problem prefix ≡ true
   pub at_hand : IfSome cover (λ options. IsCoverOver problem prefix options)
 
 -- The option was chosen last, by the branch item, and no exact cover extends an earlier child.
@@ -40,7 +41,6 @@ pub record IsInQuestion (now : Choices) (option : ℕ) (cover : Option (List ℕ
   pub item : ℕ
   pub earlier : List (List ℕ)
   pub chosen : now ≡ with_child before item option
-  pub prefix : is_prefix before.problem before.chosen ≡ true
   pub reached : IsReached before.problem before.chosen cover
   pub branch : branch_item before.problem before.chosen ≡ Some item
   pub child : IsChild before.problem before.chosen item option

@@ -1,6 +1,7 @@
 //! Where a walk stands: the chosen options, and what is known of the last of them.
 
-ghost use Rattle.std.specs.Prelude.{◌≡◌, [], None, true, IfOk};
+ghost use Rattle.std.specs.Prelude.{◌≡◌, [], true, IfOk, MatchOption};
+ghost use Rattle.cover_problem.specs.Numbers.{is_in};
 ghost use Rattle.cover_problem.specs.Prefix.{IsBarren, IsCoverOver};
 ghost use Rattle.cover_problem.specs.Search.{first};
 ghost use Rattle.question_walk.specs.Walks.{IsReached};
@@ -24,9 +25,9 @@ pub(crate) struct Walk<'a> {
 }
 
 impl<'a> Model for Walk<'a> {
-    ghost use Rattle.question_walk.specs.Walks.{Walk, IsOnTheWay};
+    ghost use Rattle.question_walk.specs.Walks.{Walk as WalkValue, IsOnTheWay};
 
-    ghost Value = { Walk };
+    ghost Value = { WalkValue };
 
     ghost view = { λ w. record {
       problem = w.links.problem;
@@ -36,6 +37,13 @@ impl<'a> Model for Walk<'a> {
     } };
 
     ghost invariant = { λ w. IsOnTheWay w.links w.asked w.cover };
+}
+
+/// Whether a cover has the option.
+fn has(cover: &[u16], option: u16) -> bool
+    ensures { result ≡ is_in cover.now option }
+{
+    cover.contains(&option)
 }
 
 impl<'a> Walk<'a> {
@@ -64,9 +72,19 @@ impl<'a> Walk<'a> {
             IsReached self.now.problem self.now.chosen self.now.cover }
     {
         match (&self.cover, self.asked) {
-            (Some(cover), Some(option)) => cover.as_slice().contains(&option),
+            (Some(cover), Some(option)) => has(cover.as_slice(), option),
             (Some(_), None) => true,
             (None, _) => false,
+        }
+    }
+
+    /// Whether an option is in question, where none means that there is no cover.
+    fn onward(&self) -> Step
+        ensures { MatchOption self.now.asked (result ≡ Step.End WalkEnd.NoCover) (λ _. result ≡ Step.On) }
+    {
+        match self.asked {
+            Some(_) => Step::On,
+            None => Step::End(WalkEnd::NoCover),
         }
     }
 
@@ -81,10 +99,7 @@ impl<'a> Walk<'a> {
             return Step::End(WalkEnd::Found);
         };
         self.asked = self.links.choose_first(item);
-        match self.asked {
-            Some(_) => Step::On,
-            None => Step::End(WalkEnd::NoCover),
-        }
+        self.onward()
     }
 
     /// Goes on by one choice, if it is known that an exact cover begins with the chosen options.
@@ -114,13 +129,10 @@ impl<'a> Walk<'a> {
         ensures problem { self.new.problem ≡ self.old.problem }
         ensures step { IsStepOf (first self.old.problem []) self.new.chosen result }
     {
-        if self.asked.is_none() {
-            return Step::End(WalkEnd::NoCover);
+        if self.asked.is_some() {
+            self.asked = self.links.choose_next();
+            return self.onward();
         }
-        self.asked = self.links.choose_next();
-        match self.asked {
-            Some(_) => Step::On,
-            None => Step::End(WalkEnd::NoCover),
-        }
+        Step::End(WalkEnd::NoCover)
     }
 }

@@ -28,10 +28,7 @@ static FIRST: [(&str, Option<&[u16]>); 6] = [
         "a b c d e f g\nc e\na d g\nb c f\na d f\nb g\nd e g\n",
         Some(&[3, 4, 0]),
     ),
-    (
-        "a b c d e f g\nc e\na d g\nb c f\na d f\nd e g\n",
-        None,
-    ),
+    ("a b c d e f g\nc e\na d g\nb c f\na d f\nd e g\n", None),
     (
         "p q r | x y\np q x y:A\np r x:A y\np x:B\nq x:A\nr y:B\n",
         Some(&[3, 1]),
@@ -74,7 +71,10 @@ fn first_covers_of_small_problems(rt: HostRuntime) -> Result<(), Fail> {
         let end = end_of(&mut walk, u64::MAX)?;
         match first {
             Some(options) => {
-                assert!(rt; end == WalkEnd::Found && walk.chosen() == *options, "{text}");
+                assert!(rt;
+                    end == WalkEnd::Found && walk.chosen() == *options,
+                    "{text}"
+                );
             }
             None => assert!(rt; end == WalkEnd::NoCover, "{text}"),
         }
@@ -100,7 +100,8 @@ fn first_covers_by_walks_that_are_stopped(rt: HostRuntime) -> Result<(), Fail> {
 }
 
 /// Three lessons of a class that has three periods, two of them with a teacher who has only two.
-const LESSONS: &str = "art bio chess | m t w mr tr\nart m\nart t\nart w\nbio m mr\nbio t tr\nchess m mr\nchess t tr\n";
+const LESSONS: &str =
+    "art bio chess | m t w mr tr\nart m\nart t\nart w\nbio m mr\nbio t tr\nchess m mr\nchess t tr\n";
 
 /// A walk that asks about the problem in which the periods are primary finds the first cover of the problem itself.
 #[test]

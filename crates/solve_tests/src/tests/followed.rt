@@ -265,7 +265,10 @@ fn jobs_that_can_not_be_counted_are_told_of_once(rt: HostRuntime) -> Result<(), 
         let quiet = told_of_jobs(&rt, rt.alloc(), &finding, *times)?;
         assert!(rt; quiet.as_slice() == line.as_bytes(), "{fuel} {times}");
         let followed = told_of_followed_jobs(&rt, rt.alloc(), &finding, *times)?;
-        assert!(rt; followed.as_slice() == line.as_bytes(), "{fuel} {times}, followed");
+        assert!(rt;
+            followed.as_slice() == line.as_bytes(),
+            "{fuel} {times}, followed"
+        );
     }
     Ok(())
 }
