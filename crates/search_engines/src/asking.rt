@@ -67,7 +67,7 @@ fn walk_over<'a>(
     problem: &'a Problem,
     made: Option<&'a WithUsedItems>,
 ) -> Result<QuestionWalk<'a>, AllocError>
-    requires { IfSome made.entry (λ made. HaveSameCovers problem.now made.now.problem) }
+    requires { IfSome made (λ made. HaveSameCovers problem.now made.now.problem) }
     ensures { IfOk result (λ walk. walk.problem ≡ problem.now) }
 {
     let settings = Settings {
@@ -89,7 +89,7 @@ fn searched_asking<V: Watch, C: Clock>(
     made: Option<&WithUsedItems>,
     watch: &mut V,
 ) -> Result<Option<Answer>, AllocError>
-    requires { IfSome made.entry (λ made. HaveSameCovers tables.now made.now.problem) }
+    requires { IfSome made (λ made. HaveSameCovers tables.now made.now.problem) }
     ensures answer { IfOk result (λ found. IfSome found
         (λ answer. answer ≡ answer_by tables.now (first tables.now []))) }
     ensures order { IfOk result (λ found. IfSome found (IsWritable tables.now)) }

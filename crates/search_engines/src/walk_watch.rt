@@ -1,5 +1,7 @@
 //! A watch of a search that lets a walk go on while it looks.
 
+ghost use Rattle.std.specs.Prelude.{◌≡◌};
+
 use crate::stopwatch::Stopwatch;
 use brancher::Watch;
 use learner::{Figures, LearnerWatch};
@@ -23,27 +25,18 @@ impl ForProblem for Brand {
     ghost problem = { bare };
 }
 
-/// Stops the learner of a walk once its turn is over, or the watch of the search stops it.
+/// Stops the learner of a walk once its turn is over.
 #[derive(Drop)]
-struct Halt<'a, 'b, V: Watch, C: Clock> {
+struct TurnWatch<'a, C: Clock> {
     clock: &'a C,
-    inner: &'a mut V,
-    /// What the search has chosen.
-    chosen: &'b [u16],
-    /// How many visits the search has left.
-    left: u64,
     began: Stopwatch,
-    /// The turn is over.
     is_over: bool,
-    /// The watch of the search has stopped it.
-    is_stopped: bool,
 }
 
-impl<'a, 'b, V: Watch, C: Clock> LearnerWatch for Halt<'a, 'b, V, C> {
+impl<'a, C: Clock> LearnerWatch for TurnWatch<'a, C> {
     fn look(&mut self, _figures: &Figures) -> bool {
-        self.is_stopped = self.inner.look(self.chosen, self.left);
         self.is_over = is_turn_over(self.clock, &self.began).unwrap_or(true);
-        self.is_stopped || self.is_over
+        self.is_over
     }
 }
 
@@ -99,27 +92,22 @@ impl<'a, 'b, P: ForProblem, V: Watch, C: Clock> WalkWatch<'a, 'b, P, V, C> {
         !self.is_given_up && is_turn_over(self.clock, &self.began).unwrap_or(false)
     }
 
-    /// Lets the walk go on for a turn, beside a search that has chosen these options and has so many visits left. Returns whether the search
-    /// is to stop: the walk has ended, or the watch has stopped it.
-    fn go_on(&mut self, chosen: &[u16], left: u64) -> bool {
-        let mut halt = Halt {
+    /// Lets the walk go on for a turn. Returns whether it has ended, so that the search is to stop.
+    fn go_on(&mut self) -> bool {
+        // (the watch of the search doesn't look meanwhile: a turn is short)
+        let mut turn = TurnWatch {
             clock: self.clock,
-            inner: &mut *self.inner,
-            chosen,
-            left,
             began: Stopwatch::new(self.clock),
             is_over: false,
-            is_stopped: false,
         };
-        let ended = self.walk.search(&mut halt);
-        let (is_over, is_stopped) = (halt.is_over, halt.is_stopped);
+        let ended = self.walk.search(&mut turn);
         self.began = Stopwatch::new(self.clock);
         match ended {
-            Ok(WalkEnd::Stopped) => {
-                self.is_given_up = !is_over && !is_stopped;
-                is_stopped
-            }
             Ok(WalkEnd::Found | WalkEnd::NoCover) => true,
+            Ok(WalkEnd::Stopped) => {
+                self.is_given_up = !turn.is_over;
+                false
+            }
             Err(_) => {
                 self.is_given_up = true;
                 false
@@ -134,7 +122,7 @@ impl<'a, 'b, P: ForProblem, V: Watch, C: Clock> Watch for WalkWatch<'a, 'b, P, V
     ghost may_stop = { true };
 
     fn look(&mut self, chosen: &[u16], left: u64) -> bool {
-        self.inner.look(chosen, left) || (self.is_due() && self.go_on(chosen, left))
+        self.inner.look(chosen, left) || (self.is_due() && self.go_on())
     }
 
     #[inline(always)]
