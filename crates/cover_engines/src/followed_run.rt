@@ -1,5 +1,6 @@
 //! How far a run of sites has come, and why it ended.
 
+use crate::overcounts::Overcounts;
 use crate::reasons::Reasons;
 use brancher::{Finding, Outcome};
 use cover_problem::Problem;
@@ -13,10 +14,12 @@ use std::time::Clock;
 use udp_node::{Gate, SiteEnd};
 
 /// A gate that lets all pass, and meanwhile writes now and then how far the run has come: of the tree, what is below prefixes that were
-/// searched without a cover, and what the search that reports has left behind it. Where the clock can't be read it writes nothing.
+/// searched without a cover, and what the search that reports has left behind it. Where the clock can't be read it writes nothing of that. It
+/// writes that many jobs count more prefixes than a job can, once that is so.
 #[derive(Drop)]
 pub struct FollowedRun<'a, E: Sink, R: Wait + Clock> {
     rt: &'a R,
+    overcounts: Overcounts,
     /// How full the fullest book is, in percent.
     fullest: AtomicU64,
     state: Mutex<State<'a, E>>,
@@ -58,6 +61,7 @@ impl<'a, E: Sink, R: Wait + Clock> FollowedRun<'a, E, R> {
         };
         Ok(FollowedRun {
             rt,
+            overcounts: Overcounts::new(),
             fullest: AtomicU64::new(0),
             state: Mutex::new(state),
         })
@@ -137,6 +141,9 @@ impl<'a, E: Sink, R: Wait + Clock> Gate for FollowedRun<'a, E, R> {
     fn searched(&self, finding: &Finding, visits: u64) {
         let mut state = self.state.lock(self.rt);
         state.note(finding, visits);
+        if self.overcounts.hear(finding) {
+            state.log.tell(Overcounts::LINE);
+        }
         if let Some(seconds) = state.due(self.rt) {
             let progress = state.progress(seconds, 0, 0);
             self.write(&mut state, progress);

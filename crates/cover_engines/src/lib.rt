@@ -6,6 +6,7 @@ mod audited;
 mod followed_run;
 mod machine;
 mod network;
+mod overcounts;
 mod quiet_run;
 mod reasons;
 mod sockets;

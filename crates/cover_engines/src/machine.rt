@@ -107,9 +107,9 @@ impl<N: Network, R: Threads + Wait + Clock + Sync> Machine<'_, N, R> {
         }
     }
 
-    /// Lets sites search, and writes nothing meanwhile.
+    /// Lets sites search, and writes nothing of it meanwhile, unless many jobs count more prefixes than a job can.
     #[tactic(auto, using(crate::proofs::Ends::said_with))]
-    fn search_quietly<W: Sink, E: Sink>(
+    fn search_quietly<W: Sink, E: Sink + Send>(
         &self,
         request: &Request<'_>,
         read: &Read,
@@ -123,11 +123,14 @@ impl<N: Network, R: Threads + Wait + Clock + Sync> Machine<'_, N, R> {
         ensures failed { result ≡ Err EngineFault.Write → W.failed sink.new ≡ failed_once (W.failed sink.old) }
     {
         let task = task_of(request, read);
-        let quiet = QuietRun::new(self.rt);
+        let quiet = QuietRun::new(self.rt, &mut *errors);
         let solved = solve_problem(self.rt, self.alloc, task, links, &quiet, sink);
+        let reason = quiet.reason();
+        // (it borrows the sink of errors, to which lines are written next)
+        drop(quiet);
         if let Ok(status) = &solved {
             tell(*status, read.ignored, errors);
-            quiet.tell(errors);
+            tell_reason(reason, errors);
         }
         solved
     }
@@ -182,6 +185,13 @@ fn limit_of(request: &Request<'_>) -> Option<Duration>
 {
     let seconds = request.seconds?;
     Some(Duration::from_secs(u64::from(seconds)))
+}
+
+/// Reports why there is no answer, if there is none. A fault of the sink is passed over.
+fn tell_reason<E: Sink>(reason: Option<&str>, errors: &mut E) {
+    if let Some(reason) = reason {
+        let _ = writeln!(errors, "ended: {reason}");
+    }
 }
 
 /// Reports why no links could be had, and returns the exit status: 5 if memory ran out, else 3.

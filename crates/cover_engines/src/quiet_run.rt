@@ -1,58 +1,66 @@
-//! A run that writes nothing before it is over.
+//! A run that is not followed.
 
+use crate::overcounts::Overcounts;
 use crate::reasons::Reasons;
+use brancher::Finding;
 use dlx_reader::Sink;
 use spawn_frame::Job;
 use std::sync::{Mutex, Wait};
 use udp_node::{Gate, SiteEnd};
 
-/// A gate that lets all pass, and keeps why a run ended without an answer.
+/// A gate that lets all pass, and keeps why a run ended without an answer. Before that it writes nothing, but that many jobs count more
+/// prefixes than a job can, once that is so: such a run may come to nothing. A fault of the sink is passed over.
 #[derive(Drop)]
-pub struct QuietRun<'a, R: Wait> {
+pub struct QuietRun<'a, E: Sink, R: Wait> {
     rt: &'a R,
-    state: Mutex<Heard>,
+    overcounts: Overcounts,
+    state: Mutex<Heard<'a, E>>,
 }
 
 /// What is known of a run so far.
 #[derive(Drop)]
-struct Heard {
+struct Heard<'a, E: Sink> {
+    sink: &'a mut E,
     reasons: Reasons,
     /// Why there is no answer, once the run is over without one.
     told: Option<&'static str>,
 }
 
-impl<'a, R: Wait> QuietRun<'a, R> {
+impl<'a, E: Sink, R: Wait> QuietRun<'a, E, R> {
     /// A gate of a run that hasn't begun.
-    pub fn new(rt: &'a R) -> QuietRun<'a, R> {
+    pub fn new(rt: &'a R, sink: &'a mut E) -> QuietRun<'a, E, R> {
         let heard = Heard {
+            sink,
             reasons: Reasons::new(),
             told: None,
         };
         QuietRun {
             rt,
+            overcounts: Overcounts::new(),
             state: Mutex::new(heard),
         }
     }
 
-    /// Writes why there is no answer, if the run ended without one. A fault of the sink is passed over.
-    pub fn tell<E: Sink>(&self, sink: &mut E) {
-        if let Some(reason) = self.reason() {
-            let _ = writeln!(sink, "ended: {reason}");
-        }
-    }
-
     /// Why there is no answer, if the run ended without one.
-    fn reason(&self) -> Option<&'static str> {
+    pub fn reason(&self) -> Option<&'static str> {
         self.state.lock(self.rt).told
     }
 }
 
-impl<'a, R: Wait> Gate for QuietRun<'a, R> {
+impl<'a, E: Sink, R: Wait> Gate for QuietRun<'a, E, R> {
     fn pass(&self, _worker: u8, _job: &Job) -> bool {
         true
     }
 
     fn posted(&self, _worker: u8, _job: &Job) {}
+
+    fn searched(&self, finding: &Finding, _visits: u64) {
+        // (beside the lock, since each job comes here)
+        if self.overcounts.hear(finding) {
+            let mut state = self.state.lock(self.rt);
+            let _ = writeln!(state.sink, "{}", Overcounts::LINE);
+        }
+    }
 
     fn ended(&self, _node: u8, end: &SiteEnd) {
         self.state.lock(self.rt).reasons.hear(end);

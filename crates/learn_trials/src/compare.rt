@@ -1,5 +1,6 @@
-//! The answer of a learner beside that of the search in the defined order.
+//! The answers of a learner, and of a walk that asks one, beside that of the search in the defined order.
 
+use crate::walking::is_first;
 use brancher::{Outcome, Searcher};
 use cover_problem::Problem;
 use learner::{Figures, Found, LearnerWatch, Settings, find_cover};
@@ -62,14 +63,15 @@ pub fn compare(
         ..Settings::new()
     };
     let (found, figures) = find_cover(alloc, problem, settings, &mut Unstopped)?;
-    let outcome = Searcher::new(alloc, problem)?.search(&[], u64::MAX);
+    let mut searcher = Searcher::new(alloc, problem)?;
+    let outcome = searcher.search(&[], u64::MAX);
+    let is_right = is_same(&found, outcome)
+        && is_first(alloc, problem, settings, outcome, searcher.found())?;
     seen.problems = seen.problems.saturating_add(1);
     seen.covers = seen
         .covers
         .saturating_add(u64::from(outcome == Outcome::Cover));
     seen.conflicts = seen.conflicts.saturating_add(figures.conflicts);
-    seen.differ = seen
-        .differ
-        .saturating_add(u64::from(!is_same(&found, outcome)));
+    seen.differ = seen.differ.saturating_add(u64::from(!is_right));
     Ok(())
 }

@@ -1,6 +1,7 @@
 //! Problems whose answers are known from elsewhere.
 
 mod texts;
+mod walks;
 
 use crate::tests::texts::{board, langford, problem_of};
 use cover_problem::Problem;

@@ -1,4 +1,5 @@
-//! The answer to a problem, whatever number of visits it takes: by a short search, by a reason that excludes covers, or by a long search.
+//! The answer to a problem, whatever number of visits it takes: by a short search, by a reason that excludes covers, or by a long search and a
+//! walk that asks a learner.
 //!
 //! A tenth of a second is searched first, then a reason is looked for, then the search begins again: so short searches don't wait for a
 //! reason, which may take most of a second, and what the short search did is little beside what may follow. If memory for the reason is
@@ -9,6 +10,7 @@ ghost use Rattle.cover_problem.specs.Search.{first};
 ghost use Rattle.dlx_reader.specs.Writing.{IsWritable};
 ghost use Rattle.search_engines.specs.Alone.{answer_by};
 
+use crate::asking::searched_and_asked;
 use crate::stopwatch::Stopwatch;
 use brancher::{ROOM, Tables, Watch};
 use cover_problem::{Answer, Problem, in_order};
@@ -115,7 +117,8 @@ pub fn search_until<V: Watch>(
 
 /// Returns the answer of a problem: its first cover, with its options in the order of the file, or that there is none; no answer where the
 /// watch stopped the search, or it and the search for a reason. A search that lasts longer than a tenth of a second is begun again under
-/// the watch, if no reason is found that excludes a cover. The only error is out of memory.
+/// the watch, if no reason is found that excludes a cover; from then on a walk to the first cover that asks a learner has half of the time.
+/// The only error is out of memory.
 pub fn answer_until<V: Watch, C: Clock>(
     clock: &C,
     alloc: Global,
@@ -136,5 +139,5 @@ pub fn answer_until<V: Watch, C: Clock>(
         return Ok(Some(Answer::NoCover));
     }
     // (from the start once more: what the short search did is a tenth of a second, little beside what may follow)
-    searched(alloc, &tables, watch, &mut Untraced)
+    searched_and_asked(clock, alloc, &tables, watch)
 }

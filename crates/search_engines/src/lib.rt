@@ -4,6 +4,7 @@
 
 mod alone;
 mod answering;
+mod asking;
 mod certifying;
 mod check;
 mod deciding;
@@ -23,6 +24,7 @@ mod telling;
 mod timed_watch;
 mod tree_estimate;
 mod unanswered;
+mod walk_watch;
 
 pub use alone::{AloneEnd, alone_engine, alone_within};
 pub use answering::answer_within;

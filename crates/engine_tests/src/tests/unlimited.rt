@@ -1,6 +1,7 @@
 //! `alone` and `check` without a limit, over texts in memory; the expected values were worked out by hand.
 //!
-//! Of the bugs of `search_engines` that are kept outside the gate, `a_reason_decides_without_a_search` finds `no_reason_before_a_long_search`.
+//! Of the bugs of `search_engines` that are kept outside the gate, `a_reason_decides_without_a_search` finds `no_reason_before_a_long_search`, and
+//! `a_walk_decides_without_a_search` finds `no_walk_beside_the_search`.
 
 use super::long::names;
 use super::run_output::RunOutput;
@@ -116,6 +117,54 @@ fn a_reason_decides_without_a_search(rt: HostRuntime) {
     let text = pairs(&rt, rt.alloc(), 41);
     assert!(rt; alone(&rt, rt.alloc(), &text).is("none\n", "", 1));
     assert!(rt; check(&rt, rt.alloc(), &text, "none\n").is("right\n", "", 0));
+}
+
+/// How many choices come between the first one and what it spoils.
+const CHOICES: u8 = 25;
+
+/// Six items to be paired, of which the first option of `a` takes one. So does none of its covers begin, but a search makes all choices in
+/// between before it sees that, and none of them leaves the same.
+fn spoiled<R: Abort>(rt: &R, alloc: Global) -> String {
+    let mut text = String::new(alloc);
+    write!(text, "a p q r s t z").expect(rt, "memory");
+    for choice in 0..CHOICES {
+        write!(text, " n{choice}").expect(rt, "memory");
+    }
+    write!(text, " |").expect(rt, "memory");
+    for choice in 0..CHOICES {
+        write!(text, " x{choice}").expect(rt, "memory");
+    }
+    write!(text, "\na z\na\np r\np s\np t\np z\nq r\nq s\nq t\nq z").expect(rt, "memory");
+    write!(text, "\nr s\nr t\nr z\ns t\ns z\nt z\n").expect(rt, "memory");
+    for choice in 0..CHOICES {
+        for colour in ["A", "B", "C"] {
+            write!(
+                text,
+                "n{choice} x{choice}:{colour}\np q x{choice}:{colour}\n"
+            )
+            .expect(rt, "memory");
+        }
+    }
+    text
+}
+
+/// Its first cover: the first option of `a` that leaves six items, the first colour of each choice, and the first pairs that leave one.
+fn unspoiled<R: Abort>(rt: &R, alloc: Global) -> String {
+    let mut text = String::new(alloc);
+    let count = u16::from(CHOICES) + 4;
+    write!(text, "cover {count}\na\np r\nq s\nt z\n").expect(rt, "memory");
+    for choice in 0..CHOICES {
+        writeln!(text, "n{choice} x{choice}:A").expect(rt, "memory");
+    }
+    text
+}
+
+#[test]
+fn a_walk_decides_without_a_search(rt: HostRuntime) {
+    let text = spoiled(&rt, rt.alloc());
+    let cover = unspoiled(&rt, rt.alloc());
+    assert!(rt; alone(&rt, rt.alloc(), &text).is(&cover, "", 0));
+    assert!(rt; check(&rt, rt.alloc(), &text, "none\n").is("wrong: a cover exists\n", "", 1));
 }
 
 #[test]

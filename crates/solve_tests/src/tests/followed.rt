@@ -1,13 +1,16 @@
-//! What is written of a run that has come to no answer, by how its sites ended.
+//! What is written of a run that has come to no answer, by how its sites ended, and of one whose jobs can't be counted.
 //!
 //! Of the bugs of `cover_engines` that are kept outside the gate, `a_run_without_an_answer_tells_the_first_reason` finds
-//! `last_reason_stays`, and `searches_are_summed` finds `visits_are_not_summed` and `shares_are_not_summed`.
+//! `last_reason_stays`, `searches_are_summed` finds `visits_are_not_summed` and `shares_are_not_summed`, and
+//! `jobs_that_can_not_be_counted_are_told_of_once` finds `each_uncounted_job_is_told_of` and `spent_jobs_are_told_of`.
 
-use brancher::{Finding, Searcher};
+ghost use Rattle.std.specs.Prelude.{◌≤◌};
+
+use brancher::{Finding, ROOM, Searcher, Tables, Unwatched};
 use cover_engines::{FollowedRun, LineStyle, ProgressLog, QuietRun};
 use cover_problem::{Problem, is_prefix};
-use dlx_reader::{CountedWriter, read_problem};
-use std::alloc::Global;
+use dlx_reader::{CountedWriter, Sink, read_problem};
+use std::alloc::{AllocError, Global};
 use std::sync::Wait;
 use std::test::Fail;
 use std::thread;
@@ -91,7 +94,7 @@ fn told<R: Wait + Clock>(
     Ok(told)
 }
 
-/// The same of a run that writes nothing before it is over.
+/// The same of a run that isn't followed, once it is over.
 fn told_quietly<R: Wait + Clock>(
     rt: &R,
     alloc: Global,
@@ -99,12 +102,18 @@ fn told_quietly<R: Wait + Clock>(
     is_answered: bool,
 ) -> Vec<u8> {
     let mut told = Vec::new(alloc);
-    let run = QuietRun::new(rt);
+    let mut errors = CountedWriter::new(&mut told);
+    let run = QuietRun::new(rt, &mut errors);
     for (node, cause, is_manned) in sites {
         run.ended(*node, &ended(*cause, *is_manned));
     }
     run.finished(is_answered);
-    run.tell(&mut CountedWriter::new(&mut told));
+    let reason = run.reason();
+    drop(run);
+    if let Some(reason) = reason {
+        let _ = writeln!(errors, "ended: {reason}");
+    }
+    drop(errors);
     told
 }
 
@@ -164,5 +173,102 @@ fn searches_are_summed(rt: HostRuntime) -> Result<(), Fail> {
     let told = told_of_searches(&rt, rt.alloc())?;
     let line = b" s: 2000 visits, 100.0000 % of the tree, 0 jobs out, fullest book 0 %\n";
     assert!(rt; told.ends_with(line.as_slice()));
+    Ok(())
+}
+
+/// Items with three options each, and five that pairs don't cover: few states below very many prefixes.
+fn uncounted_text(alloc: Global) -> Result<String, AllocError> {
+    let mut text = String::new(alloc);
+    for item in 0..60u8 {
+        text.push_str(format!(in alloc; "{item} ")?.as_str())?;
+    }
+    text.push_str("p q r s t\n")?;
+    for item in 0..60u8 {
+        text.push_str(format!(in alloc; "{item}\n{item}\n{item}\n")?.as_str())?;
+    }
+    text.push_str("p q\np r\np s\np t\nq r\nq s\nq t\nr s\nr t\ns t\n")?;
+    Ok(text)
+}
+
+/// What a search of it comes to that may count so many prefixes.
+fn counted(alloc: Global, fuel: u64) -> Result<Finding, Fail>
+    requires { 1 ≤ fuel }
+{
+    let text = uncounted_text(alloc)?;
+    let read = read_problem(alloc, text.as_bytes())?;
+    let tables = Tables::build(alloc, &read.problem)?;
+    let mut searcher = Searcher::keeping(alloc, &tables, ROOM)?;
+    match searcher.find_so_far(Vec::new(alloc), fuel, &mut Unwatched) {
+        Ok(Some((finding, _))) => Ok(finding),
+        _ => Err(Fail::new("the search came to nothing")),
+    }
+}
+
+/// What is written of a run whose jobs came to this, so many times.
+fn told_of_jobs<R: Wait + Clock>(
+    rt: &R,
+    alloc: Global,
+    finding: &Finding,
+    times: u32,
+) -> Result<Vec<u8>, Fail> {
+    let mut told = Vec::new(alloc);
+    let mut errors = CountedWriter::new(&mut told);
+    let run = QuietRun::new(rt, &mut errors);
+    for _ in 0..times {
+        run.searched(finding, 1);
+    }
+    drop(run);
+    drop(errors);
+    Ok(told)
+}
+
+/// The same of a run that is followed.
+fn told_of_followed_jobs<R: Wait + Clock>(
+    rt: &R,
+    alloc: Global,
+    finding: &Finding,
+    times: u32,
+) -> Result<Vec<u8>, Fail> {
+    let read = read_problem(alloc, TWO_CHILDREN)?;
+    let mut told = Vec::new(alloc);
+    let mut errors = CountedWriter::new(&mut told);
+    let log = ProgressLog::new(&mut errors, LineStyle::Listed);
+    let run = FollowedRun::new(rt, alloc, &read.problem, log)?;
+    for _ in 0..times {
+        run.searched(finding, 1);
+    }
+    drop(run);
+    drop(errors);
+    Ok(told)
+}
+
+/// With how much fuel jobs are spent, how many there are of them, and what is written.
+static UNCOUNTED: [(u64, u32, &str); 4] = [
+    (u64::MAX, 999, ""),
+    (
+        u64::MAX,
+        1_000,
+        "many jobs count more than 2^64 - 1 prefixes, and are split without a result: try answer, which has no such limit\n",
+    ),
+    (
+        u64::MAX,
+        2_500,
+        "many jobs count more than 2^64 - 1 prefixes, and are split without a result: try answer, which has no such limit\n",
+    ),
+    (1_000, 2_500, ""),
+];
+
+#[test]
+fn jobs_that_can_not_be_counted_are_told_of_once(rt: HostRuntime) -> Result<(), Fail> {
+    for (fuel, times, line) in UNCOUNTED.iter() {
+        let finding = counted(rt.alloc(), (*fuel).max(1))?;
+        let quiet = told_of_jobs(&rt, rt.alloc(), &finding, *times)?;
+        assert!(rt; quiet.as_slice() == line.as_bytes(), "{fuel} {times}");
+        let followed = told_of_followed_jobs(&rt, rt.alloc(), &finding, *times)?;
+        assert!(rt;
+            followed.as_slice() == line.as_bytes(),
+            "{fuel} {times}, followed"
+        );
+    }
     Ok(())
 }
