@@ -11,6 +11,7 @@ use cover_engines::{FollowedRun, LineStyle, ProgressLog, QuietRun};
 use cover_problem::{Problem, is_prefix};
 use dlx_reader::{CountedWriter, Sink, read_problem};
 use std::alloc::{AllocError, Global};
+use std::io::Write;
 use std::sync::Wait;
 use std::test::Fail;
 use std::thread;
