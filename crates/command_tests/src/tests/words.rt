@@ -329,7 +329,7 @@ fn reads_whether_there_is_a_limit(rt: HostRuntime) {
 }
 
 /// Each with the status.
-static WORDS: [(&[&str], u8); 79] = [
+static WORDS: [(&[&str], u8); 80] = [
     (&["solve_cli"], 2),
     (&["solve_cli", "--help"], 0),
     (&["solve_cli", "--version"], 0),
@@ -380,7 +380,8 @@ static WORDS: [(&[&str], u8); 79] = [
         2,
     ),
     (&["solve_cli", "why", "a", "--certificate"], 2),
-    (&["solve_cli", "answer", "a", "--certificate", "b"], 2),
+    (&["solve_cli", "answer", "a", "--certificate", "b"], 9),
+    (&["solve_cli", "answer", "a", "--certificate"], 2),
     (&["solve_cli", "learn", "a", "--certificate"], 2),
     (&["solve_cli", "check", "a", "b", "--seconds", "5"], 9),
     (&["solve_cli", "check", "a", "b", "--seconds", "1000001"], 2),
