@@ -219,29 +219,24 @@ fn seen<R: Abort>(rt: &R, alloc: Global, tables: &Tables<'_>, visits: Option<u64
     }
 }
 
-/// The same of a searcher that has learned that so many visits find no cover, with how many it made to see that.
-fn seen_again<R: Abort>(
-    rt: &R,
-    alloc: Global,
-    tables: &Tables<'_>,
-    count: u64,
-) -> Option<(u64, u64)> {
-    let mut searcher = Searcher::keeping(alloc, tables, ROOM).expect(rt, "memory");
-    searcher.learn(&[], count);
+/// What a searcher says of the empty prefix once it has learned of it from another one: how many visits a search of it takes, as both say,
+/// and how many it made to see that; none where memory ran out, or one of them sees nothing.
+fn learned(alloc: Global, tables: &Tables<'_>) -> Option<(u64, u64, u64)> {
+    // (both here: what the first one says is what the other one may be told)
+    let Ok(mut one) = Searcher::keeping(alloc, tables, ROOM) else {
+        return None;
+    };
+    let Ok(mut other) = Searcher::keeping(alloc, tables, ROOM) else {
+        return None;
+    };
+    let count = one.barren_visits(&[], &mut Unwatched)?;
+    other.learn(&[], count);
     let mut watch = Stopping {
         visits: 10,
         made: 0,
     };
-    let again = searcher.barren_visits(&[], &mut watch)?;
-    Some((again, watch.made))
-}
-
-/// What a searcher says of the empty prefix once it has learned of it from another one: how many visits a search of it takes, as both say,
-/// and how many it made to see that; none where one of them sees nothing.
-fn learned<R: Abort>(rt: &R, alloc: Global, tables: &Tables<'_>) -> Option<(u64, u64, u64)> {
-    let count = seen(rt, alloc, tables, None)?;
-    let (again, made) = seen_again(rt, alloc, tables, count)?;
-    Some((count, again, made))
+    let again = other.barren_visits(&[], &mut watch)?;
+    Some((count, again, watch.made))
 }
 
 #[test]
@@ -249,7 +244,7 @@ fn what_is_learned_is_not_visited(rt: HostRuntime) {
     for (text, visits, _) in &BARREN {
         let problem = problem_of(&rt, rt.alloc(), text);
         let sets = Tables::of_sets(rt.alloc(), &problem).expect(&rt, "memory");
-        let told = learned(&rt, rt.alloc(), &sets);
+        let told = learned(rt.alloc(), &sets);
         assert_eq!(rt; told, Some((*visits, *visits, 1)), "{visits} visits");
     }
 }

@@ -1,7 +1,7 @@
 use Rattle.std.proofs.Common.{subst, List, ℕ, option_map, ◌∙◌}
 use Rattle.cover_engines.specs.Audit.{finding_line, finding_status}
 use Rattle.search_engines.specs.Output.{IsOutput, published_said, said}
-use Rattle.cover_engines.proofs.Outputs.{output_both}
+use Rattle.cover_engines.proofs.Outputs.{output_both, stopped_before}
 use Rattle.cover_engines.proofs.audited.write_audited.Goals as goal
 
 pub returns-clause-output : goal.returns-clause-output
@@ -14,3 +14,9 @@ returns-clause-output g c =
     let line = subst (Writes (finding_line found)) c.status_of.ensures (subst (λ (t : List ℕ). Writes t c.status_of.result) text c.write_line.ensures.output) in
     output_both (published_said c.args.problem.now (option_map (λ answer. answer.now) c.args.published)) (finding_line found) (finding_status found)
     (g.W.Write.contents c.args.sink.now) now new c.in_ok-status.status c.write_line.result c.in_ok-status.ensures.output line c.write_line.ensures.fault
+
+pub returns-in_err-status-clause-output : goal.returns-in_err-status-clause-output
+returns-in_err-status-clause-output g c =
+    let published = published_said c.args.problem.now (option_map (λ answer. answer.now) c.args.published) in
+    rw c.from_residual.ensures (stopped_before published (finding_line c.args.found) (finding_status c.args.found published.status)
+        (g.W.Write.contents c.args.sink.now) (g.W.Write.contents c.write_published.new.sink) c.in_err-status.field-0.0 c.in_err-status.ensures.output)
