@@ -19,4 +19,4 @@ pub returns-in_err-status-clause-output : goal.returns-in_err-status-clause-outp
 returns-in_err-status-clause-output g c =
     let published = published_said c.args.problem.now (option_map (λ answer. answer.now) c.args.published) in
     rw c.from_residual.ensures (stopped_before published (finding_line c.args.found) (finding_status c.args.found published.status)
-        (g.W.Write.contents c.args.sink.now) (g.W.Write.contents c.write_published.new.sink) c.in_err-status.field-0.0 c.in_err-status.ensures.output)
+    (g.W.Write.contents c.args.sink.now) (g.W.Write.contents c.write_published.new.sink) c.in_err-status.field-0.0 c.in_err-status.ensures.output)
