@@ -1,4 +1,5 @@
 use Rattle.std.proofs.Common.{subst, List, ℕ, option_map, ◌∙◌}
+use Rattle.std.proofs.lemmas.Result.{err_from_is_err_and}
 use Rattle.cover_engines.specs.Audit.{finding_line, finding_status}
 use Rattle.search_engines.specs.Output.{IsOutput, published_said, said}
 use Rattle.cover_engines.proofs.Outputs.{output_both, stopped_before}
@@ -18,5 +19,6 @@ returns-clause-output g c =
 pub returns-in_err-status-clause-output : goal.returns-in_err-status-clause-output
 returns-in_err-status-clause-output g c =
     let published = published_said c.args.problem.now (option_map (λ answer. answer.now) c.args.published) in
-    rw c.from_residual.ensures (stopped_before published (finding_line c.args.found) (finding_status c.args.found published.status)
+    let returned = err_from_is_err_and c.from_residual.result c.from_residual.ensures.1 in
+    rw (returned.1, returned.2) (stopped_before published (finding_line c.args.found) (finding_status c.args.found published.status)
     (g.W.Write.contents c.args.sink.now) (g.W.Write.contents c.write_published.new.sink) c.in_err-status.field-0.0 c.in_err-status.ensures.output)
