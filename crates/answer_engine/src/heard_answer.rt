@@ -1,7 +1,8 @@
 //! An answer by a search or a learner, whichever is first, and what shows that there is no cover, for whoever is to write that down.
 
-ghost use Rattle.std.specs.Prelude.{◌≡◌, ◌≢◌, ◌-◌, ◌<◌, ◌^◌, None, IfOk, IfSome};
+ghost use Rattle.std.specs.Prelude.{◌≡◌, ◌≢◌, None, IfOk, IfSome};
 ghost use Rattle.answer_engine.specs.Answers.{AnswerSays, IsWonOf};
+ghost use Rattle.dlx_reader.specs.Devices.{failed_once};
 ghost use Rattle.search_engines.specs.Output.{IsOutputOf};
 
 use crate::answer::{Found, Task, first_of, settled};
@@ -42,7 +43,8 @@ fn raced_aloud<
     task: &Task<'_, R>,
     problem: &Problem,
     watch: &mut V,
-    listeners: &mut Listeners<T, L>,
+    hears_search: &mut T,
+    hears_learner: &mut L,
 ) -> Result<Option<Won>, AllocError>
     ensures { IfOk result (λ found. IfSome found (IsWonOf problem.now)) }
 {
@@ -52,7 +54,7 @@ fn raced_aloud<
         clock: rt,
         race: &race,
         time: task.time,
-        listener: &mut listeners.learner,
+        listener: hears_learner,
     };
     let mut search = SearchWatch {
         clock: rt,
@@ -61,7 +63,6 @@ fn raced_aloud<
         inner: watch,
         states: 0,
     };
-    let hears_search = &mut listeners.search;
     // (the first closure may run in another thread, and the log of the search belongs to this one)
     let (learned, searched) = join(
         rt,
@@ -95,11 +96,40 @@ fn decided_aloud<
     ensures right { IfOk result (λ found. IfSome found (IsWonOf problem.now)) }
     ensures decides { task.now.time ≡ None → IfOk result (λ found. found ≢ None) }
 {
-    let found = raced_aloud(task, problem, watch, listeners)?;
+    let Listeners {
+        search,
+        learner,
+        ..
+    } = listeners;
+    let found = raced_aloud(task, problem, watch, search, learner)?;
     if let Some(won) = &found {
         listeners.is_learned = won.basis.is_learning();
     }
     settled(task, problem, watch, found)
+}
+
+/// Looks for an answer, writes it, or that there is none in the time, and returns the status.
+fn write_decided_aloud<
+    V: EndWatch,
+    T: Trace + ReasonListener + Drop,
+    L: LearnerWatch + Drop + Send,
+    W: Sink,
+    R: Threads + Wait + Clock + Sync,
+>(
+    task: &Task<'_, R>,
+    problem: &Problem,
+    watch: &mut V,
+    listeners: &mut Listeners<T, L>,
+    sink: &mut W,
+) -> Result<u8, EngineFault>
+    ensures output { IsOutputOf (AnswerSays task.now.reason task.now.time problem.now)
+        (W.contents sink.old) (W.contents sink.new) result }
+    ensures failed { result ≡ Err EngineFault.Write → W.failed sink.new ≡ failed_once (W.failed sink.old) }
+{
+    match decided_aloud(task, problem, watch, listeners) {
+        Ok(won) => write_told(task.alloc, problem, won.as_ref(), task.reason, sink),
+        Err(_) => Err(EngineFault::Memory),
+    }
 }
 
 /// Writes an exact cover of a problem, with the options in the order of the file, or `none`, whichever of two lanes finds it first: a search that
@@ -126,17 +156,13 @@ pub fn write_heard_answer<
     sink: &mut W,
     log: ProgressLog<'a, E>,
 ) -> Result<u8, EngineFault>
-    requires { W.failed sink.old < 2 ^ 64 - 1 }
     ensures output { IsOutputOf (AnswerSays task.now.reason task.now.time problem.now)
         (W.contents sink.old) (W.contents sink.new) result }
-    ensures failed { result ≡ Err EngineFault.Write → W.failed sink.old < W.failed sink.new }
+    ensures failed { result ≡ Err EngineFault.Write → W.failed sink.new ≡ failed_once (W.failed sink.old) }
 {
     let made = ProgressWatch::new(task.rt, task.alloc, problem, u64::MAX, log);
     let Ok(mut watch) = made else {
         return Err(EngineFault::Memory);
     };
-    match decided_aloud(task, problem, &mut watch, listeners) {
-        Ok(won) => write_told(task.alloc, problem, won.as_ref(), task.reason, sink),
-        Err(_) => Err(EngineFault::Memory),
-    }
+    write_decided_aloud(task, problem, &mut watch, listeners, sink)
 }
