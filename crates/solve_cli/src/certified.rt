@@ -104,8 +104,9 @@ fn run_asked<E: Sink, R: Threads + Wait + Clock + Sync>(
 
 /// Writes the answer to a problem and a certificate, and returns the exit status. Only a certificate that is right stays.
 fn certify<E: Sink>(rt: &HostRuntime, asked: &Asked<'_, '_>, errors: &mut E) -> u8 {
-    let file = asked.request.settings.file;
-    let (place, lines) = match CertificatePlace::create(rt, file, asked.name) {
+    let (request, limits) = (asked.request, asked.limits);
+    let made = CertificatePlace::create(rt, request.settings.file, asked.name);
+    let (place, lines) = match made {
         Ok(made) => made,
         Err(fate) => return fate.tell(asked.name, 3, errors),
     };
@@ -114,7 +115,7 @@ fn certify<E: Sink>(rt: &HostRuntime, asked: &Asked<'_, '_>, errors: &mut E) -> 
         status,
         is_whole,
         is_begun,
-    } = run_into(rt, asked.request, asked.limits, problem, lines, errors);
+    } = run_into(rt, request, limits, problem, lines, errors);
     let status = tell_status(rt, asked, status, errors);
     let fate = if status == 1 && !is_begun {
         CertificateFate::Unsayable
@@ -153,7 +154,8 @@ pub(crate) fn tell_status<E: Sink>(
         }),
         Err(fault) => Err(fault),
     };
-    let status = tell_end_of(&ended, asked.request.settings.file, errors);
+    let request = asked.request;
+    let status = tell_end_of(&ended, request.settings.file, errors);
     tell_why(rt, asked, &ended, errors);
     status
 }

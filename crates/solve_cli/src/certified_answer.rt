@@ -65,7 +65,8 @@ struct AnsweredEnd {
 
 /// Makes a file for each certificate.
 fn create(rt: &HostRuntime, asked: &Asked<'_, '_>) -> Result<(Places, Lines), CertificateFate> {
-    let file = asked.request.settings.file;
+    let request = asked.request;
+    let file = request.settings.file;
     let (search, lines) = CertificatePlace::create(rt, file, asked.name)?;
     if search.is_device() {
         return Err(CertificateFate::Uncreated(TO_A_FILE));
