@@ -45,9 +45,9 @@ from .another import free_name, others_of
 from .answers import Answered, answered, planned, TRY_SECONDS
 from .command_words import as_called, parser_of
 from .cover_files import complain, Problem, put, read_audited, read_problem, stop
-from .cover_reason import found_reason
 from .draw import add_tables, planned as planned_picture, write_out, write_plans
 from .errors import NoProgram, OutOfMemory, ProgramError, TimeIsUp
+from .even_room import any_reason
 from .fault_words import plural
 from .impossible import core_of, core_words
 from .mistyped import SECONDS as CHANGE_SECONDS, told_changes
@@ -178,7 +178,7 @@ def draw(given: Namespace, picture: Kind, title: str) -> None:
 def tell_none(program: str, text: bytes, problem: Problem) -> None:
     """Says that there is no solution, and why, where that takes no search."""
     print("There is no solution.")
-    reason = found_reason(program, text)
+    reason = any_reason(program, text, problem)
     if reason and reason.holds(problem):
         print("\n".join(told_lines(problem, reason.words(problem, in_words(problem)))))
 
