@@ -237,6 +237,7 @@ def errors() -> None:
         (zarfepoch.ColoredPrimary, lambda: Problem(options=[["a"], ["b", Colored("x", 1)]]), 1, "x"),
         (zarfepoch.ProblemError, lambda: zarfepoch.solve(["ab"]), 0, None),
         (zarfepoch.ProblemError, lambda: zarfepoch.solve([["a"], {"b": 1}]), 1, None),
+        (zarfepoch.ProblemError, lambda: zarfepoch.solve([["a"], 1]), 1, None),  # type: ignore[list-item]
         (zarfepoch.ProblemError, lambda: zarfepoch.chosen({"A": ["a"]}), None, None),
         (zarfepoch.ProblemError, lambda: Problem(["a b"]).text(), None, "a b"),
         (zarfepoch.ProblemError, lambda: Problem(["a"], ["x"], [["a", Colored("x", "1:2")]]).text(), 0, "1:2"),

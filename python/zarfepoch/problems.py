@@ -342,10 +342,12 @@ def want_list(options: object) -> None:
 
 
 def option_in(option: Iterable[Word], place: int) -> tuple[Word, ...]:
-    """An option of a list; `ProblemError` where it is one text or a dict, of which letters or keys would be the items."""
+    """An option of a list; `ProblemError` where it is one text or a dict, of which letters or keys would be the items, or no list."""
     if isinstance(option, (str, bytes, Mapping)):
         what, item = ("a dict", "item") if isinstance(option, Mapping) else (f"the text {option!r}", repr(option))
         raise ProblemError(f"option {place} is {what}: a list of items is expected, as [{item}]", option=place)
+    if not isinstance(option, Iterable):
+        raise ProblemError(f"option {place} is {option!r}: a list of items is expected, as [{option!r}]", option=place)
     return tuple(option)
 
 

@@ -5,8 +5,9 @@
 First it asks the program for a reason (solve_cli why FILE): an item in no option; too little room, as 25 lessons for the 24 periods
 of their teacher; or weights that each option adds up to 0 modulo some number, and all items together don't, as the colours of a
 chessboard. Where it has none, this counts items that are alike: nine people who meet in threes on five evenings make 45 meetings of two,
-and there are 36 pairs, each of which may meet once. That takes no search. It adds the reason up again by itself, and --svg draws it: the board in the colours of the weights,
-where the items are cells of one, else the items beside what they weigh, need or have room for. Without a reason there is no picture.
+and there are 36 pairs, each of which may meet once. That takes no search. It adds the reason up again by itself, and --svg draws it: the
+board in the colours of the weights, where the items are cells of one, else the items beside what they weigh, need or have room for. Without
+a reason there is no picture.
 
 Where the program finds no reason, or with --search, and answers `none`, this takes primary items away as long as it still does: half of
 those that are left at a time, then one by one. What is left can't be covered, and would be without any one of its items. (Where a
