@@ -86,7 +86,8 @@ NONE = ((["queens", "3"], "There is no solution."), (["langford", "5"], "each op
 
 def reasons(trial: Solving) -> None:
     """What is told where there is no answer, in the puzzle's words."""
-    for words, told in (*NONE, (["sudoku", trial.path("four.txt", "12..\n..3.\n....\n...3\n")], "nothing is possible for a 3 in box 1")):
+    for words, told in (*NONE, (["sudoku", trial.path("four.txt", "12..\n..3.\n....\n...3\n")], "nothing is possible for a 3 in box 1"),
+                                (["sudoku", trial.path("eight.txt", SUDOKU.replace("7 .", "7 2", 1))], "nothing is possible for an 8 in box 2")):
         status, lines, errors = trial.run(*words)
         trial.expect(f"{words}: {status} {lines} {errors}", status == (1 if told else 0) and told in "\n".join(lines))
     cubes = trial.path("cubes.txt", "one r r r r r r\ntwo r r r r r b\n")
@@ -294,6 +295,8 @@ def spellings(trial: Solving) -> None:
     trial.expect("boxes that can't be", trial.run("sudoku", six, "--boxes", "2x2")[0] == 3)
     grid, words = trial.path("grid.txt", "..\n#.\n"), trial.path("words.txt", "AB\nbc\nx\nx1y\n")
     trial.expect("capitals", trial.run("crossword", grid, words)[0] == 3)
+    status, _, errors = trial.run("crossword", trial.path("capitals.txt", "AB\n"), trial.path("small.txt", "ab\n"))
+    trial.expect(f"what makes capitals alike: {errors}", status == 1 and "with --ignore-case they are alike" in errors)
     status, lines, errors = trial.run("word-square", "--ignore-case", "--one", trial.path("square.txt", "Ab\ncd\nac\nbd\n"))
     trial.expect(f"a square of words in two cases: {lines} {errors}", status == 0 and lines in (["a b", "c d"], ["a c", "b d"]))
     status, lines, errors = trial.run("crossword", grid, words, "--ignore-case")

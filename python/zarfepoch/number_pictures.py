@@ -4,6 +4,7 @@ from __future__ import annotations
 import itertools
 import re
 
+from .fault_words import with_article
 from .grid_pictures import line_words, WHITE
 from .picture_base import Cell, CELL, cell_of, cell_words, Kind, known_cell, LARGEST
 from .svg_paper import ACCENT, Board, FAINT, FILLS, INK, Paper
@@ -115,7 +116,7 @@ class LatinSquare(Grid):
 
     def item_words(self, item: str) -> str:
         found = re.fullmatch(r"([rc])(\d)(\d)", item)
-        return f"a {found[3]} in {'row' if found[1] == 'r' else 'column'} {int(found[2]) + 1}" if found else super().item_words(item)
+        return f"{with_article(found[3])} in {'row' if found[1] == 'r' else 'column'} {int(found[2]) + 1}" if found else super().item_words(item)
 
 
 class Futoshiki(LatinSquare):

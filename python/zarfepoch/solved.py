@@ -158,7 +158,7 @@ def only_words(program: str, problem: Problem, answer: bytes, seconds: Optional[
     limit = seconds or OTHER_SECONDS
     found = answered(program, text, limit)
     told = {0: "There is another solution; --all draws each.", 1: "It is the only solution."}
-    return told.get(found.status, f"Whether it is the only solution wasn't decided in {limit:g} seconds; --seconds N gives more.")
+    return told.get(found.status, f"Whether it is the only solution wasn't decided in {limit:g} second{'s' * (limit != 1)}; --seconds N gives more.")
 
 
 def draw(given: Namespace, picture: Kind, title: str) -> None:
