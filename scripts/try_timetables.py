@@ -28,7 +28,7 @@ from expected import Trial
 from plain_search import branching, read
 from plan_rules import choices, faults, Given, joined, read_plan, rows_of, Row, runs_in, times_of
 from planned_schools import planned, Tables
-from zarfepoch.answers import planned as answered
+from zarfepoch.answers import movable, planned as answered
 from zarfepoch.cover_files import read_answer, read_problem
 from zarfepoch.picture_kinds import picture_of
 from zarfepoch.timetable_pictures import Timetable
@@ -205,6 +205,15 @@ def schools(trial: Planning, times: int) -> None:
             trial.expect("nothing changes where nothing has to", sorted(trial.plan(tables, plan).split("\n")) == sorted(plan.split("\n")))
 
 
+def soon_more(trial: Planning) -> None:
+    """Where no time is left, more lessons may move after each search, up to all of them but a third."""
+    tables = planned(1)
+    school = read_school(trial.path("school.csv", tables.lessons), trial.path("rules.csv", tables.rules))
+    [timetable] = timetables(school, kept_plan(trial.path("before.csv", trial.plan(tables)), school))
+    sizes = [len(released) for released in movable(timetable, random.Random(1), 0)]
+    trial.expect(f"ever more lessons may move: {sizes}", sizes == sorted(set(sizes)) and sizes[0] == 0 and 3 * sizes[-1] >= 2 * len(timetable.lessons))
+
+
 def wrong_plans(trial: Planning) -> None:
     """plan_rules.py finds what is wrong with a plan."""
     tables = planned(1)
@@ -307,7 +316,7 @@ def main() -> int:
         trial = Planning(given.program, folder)
         same_plans(trial, given.times)
         schools(trial, given.times)
-        for tests in (wrong_plans, refusals, impossible, parts):
+        for tests in (soon_more, wrong_plans, refusals, impossible, parts):
             tests(trial)
     return trial.end()
 

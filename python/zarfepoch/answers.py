@@ -14,7 +14,7 @@ from .timetables import Timetable
 TRY_VISITS = 2_000
 # for so many seconds a plan is looked for where no time is told, before parts of the school are tried by themselves
 TRY_SECONDS = 20.0
-# so many choices of lessons that may move are tried before more of them may, or fewer where they take more than this part of the time
+# so many choices of lessons that may move are tried before more of them may, or fewer, one at least, where they take more than this part of the time
 CHOICES, SHARE = 30, 1 / 12
 
 
@@ -63,7 +63,7 @@ def movable(timetable: Timetable, draw: random.Random, seconds: float) -> Iterat
         if size > len(timetable.lessons):
             return
         until = time.monotonic() + SHARE * seconds
-        for _ in itertools.takewhile(lambda _: time.monotonic() < until, range(CHOICES)):
+        for _ in itertools.takewhile(lambda number: not number or time.monotonic() < until, range(CHOICES)):
             order = [name for ring in near for name in draw.sample(ring, len(ring))]
             yield unfit | set(order[:size])
 
