@@ -323,7 +323,8 @@ def no_texts(trial: Generating) -> None:
 # how each kind is drawn by lot, and what generate.py wants behind the file
 PUZZLES: dict[str, tuple[Callable[[random.Random], Union[drawn_puzzles.Drawn, drawn_puzzles.DrawnTwice]], list[str], list[str]]] = {
     **{f"sudoku of {size}": (functools.partial(drawn_puzzles.sudoku, size=size), ["sudoku"], []) for size in (4, 6, 9, 12, 16)},
-    "diagonals": (drawn_puzzles.diagonals, ["sudoku"], ["--diagonals"]), "jigsaw": (drawn_puzzles.jigsaw, ["jigsaw"], []),
+    "diagonals": (drawn_puzzles.diagonals, ["sudoku"], ["--diagonals"]), "hyper": (drawn_puzzles.hyper, ["sudoku"], ["--hyper"]),
+    "jigsaw": (drawn_puzzles.jigsaw, ["jigsaw"], []),
     "killer": (drawn_puzzles.killer, ["killer"], []), "kakuro": (drawn_puzzles.kakuro, ["kakuro"], []), "stars": (drawn_puzzles.stars, ["stars"], []),
     "two stars": (functools.partial(drawn_puzzles.stars, size=10, count=2), ["stars"], ["--stars", "2"]),
     "three stars": (lambda draw: drawn_puzzles.stars(random.Random(1), 14, 3), ["stars"], ["--stars", "3"]),
