@@ -15,7 +15,7 @@ TRY_VISITS = 2_000
 # for so many seconds a plan is looked for where no time is told, before parts of the school are tried by themselves
 TRY_SECONDS = 20.0
 # so many choices of lessons that may move are tried before more of them may, or fewer, one at least, where they take more than this part of the time
-CHOICES, SHARE = 30, 1 / 12
+CHOICES, SHARE = 30, 1 / 20
 
 
 class Answered(NamedTuple):

@@ -101,9 +101,10 @@ def positive(text: str) -> float:
 
 
 def asked_of_school(program: str, timetable: Timetable, given: Namespace) -> Answered:
-    """The program's answer to a timetable: for a third of the time, or by a part of the school that has none, or for the rest of the time."""
+    """The program's answer to a timetable: for a third of the time, or two where a plan is kept, or by a part of the school that has none, or for the rest
+    of the time."""
     began, limit = time.monotonic(), given.seconds or 3 * TRY_SECONDS
-    found = planned(program, timetable, bool(given.keep), limit / 3)
+    found = planned(program, timetable, bool(given.keep), (2 if given.keep else 1) * limit / 3)
     if (found is None or found.status == 1) and timetable.school:
         # (where it is known that there is none, all of the time is for the reason)
         core = core_of(program, timetable.school, limit - (time.monotonic() - began) if found else limit / 3, found is not None)
