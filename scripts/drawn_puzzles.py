@@ -26,6 +26,9 @@ LETTERS = "abcdefghijklmnopqrstuvwxyzABCDEFGHIJKLMNOPQRSTUVWXYZ"
 # a sudoku whose diagonals have each digit too
 DIAGONAL = ["639251748", "458367912", "172849365", "967435281", "824176593", "315928476", "796583124", "541692837", "283714659"]
 
+# one whose four windows have each digit too
+HYPER = ["267195834", "415683729", "389724651", "724361985", "198257463", "536849217", "972516348", "641938572", "853472196"]
+
 
 def houses(size: int, regions: Grid) -> list[list[Cell]]:
     """The cells of each row, column and region."""
@@ -87,6 +90,18 @@ def diagonals(draw: random.Random) -> Drawn:
     further = [[(k, k) for k in range(9)], [(k, 8 - k) for k in range(9)]]
     return as_rows(9, {cell: str(digit) for cell, digit in given.items()}, "."), lambda lines: is_filled(
         9, digits_of(lines, 9), boxes(9), given, further)
+
+
+def hyper(draw: random.Random) -> Drawn:
+    """A sudoku with windows: one that is known, with other digits, and turned or seen in a mirror."""
+    digits, rows = draw.sample(range(1, 10), 9), HYPER
+    for _ in range(draw.randrange(4)):
+        rows = ["".join(column) for column in zip(*rows[::-1])]
+    rows = rows[::draw.choice((1, -1))]
+    given = thinned(draw, {(r, c): digits[int(mark) - 1] for r, row in enumerate(rows) for c, mark in enumerate(row)}, 0.35)
+    windows = [[(top + r, left + c) for r in range(3) for c in range(3)] for top in (1, 5) for left in (1, 5)]
+    return as_rows(9, {cell: str(digit) for cell, digit in given.items()}, "."), lambda lines: is_filled(
+        9, digits_of(lines, 9), boxes(9), given, windows)
 
 
 def jigsaw(draw: random.Random) -> Drawn:

@@ -154,6 +154,32 @@ def spellings(trial: Generating) -> None:
     trial.expect("one town of a map", [line.split()[0] for line in trial.drawn(trial.made("coloring", borders))] == ["Aachen", "Bonn", "K\u00f6ln"])
 
 
+# what people type, and of which name and line they are told that it may be another one
+ALIKE = (("timetable", "a,M\u00fcller,5a,r,Mon1\nb,Muller,5b,s,Mon1\n", "line 3: note: the teacher Muller and the teacher M\u00fcller of line 2"),
+         ("timetable", "a,M\u00fcller,5a,r,Mon1\nb,Mueller,5b,s,Mon1\n", "line 3: note: the teacher Mueller and the teacher M\u00fcller of line 2"),
+         ("timetable", "a,Ann Lee,5a,r,Mon1\nb,Ann-Lee,5b,s,Mon1\n", "line 3: note: the teacher Ann-Lee and the teacher Ann Lee of line 2"),
+         ("timetable", "a,ann,5a,R_1,Mon1\nb,bob,5-a,R1,Mon1\n", "line 3: note: the room R1 and the room R_1 of line 2"),
+         ("timetable", "a,ann,5a,r,Mon1\nA,bob,5a,s,Mon2\n", "line 3: note: the lesson A and the lesson a of line 2"),
+         ("timetable", "a,ann,6.1,r,Mon1\nA,bob,61,s,Mon1\n", ""), ("timetable", "a,Bauer,5a,r,Mon1\nb,Baur,5b,s,Mon1\n", ""),
+         ("coloring", "K\u00e4rnten Tirol\nKarnten Tirol\n", "line 2: note: the place Karnten and the place K\u00e4rnten of line 1"),
+         ("matching", "ann Bob\nbob cy\ncy ann\n", "line 2: note: the name bob and the name Bob of line 1"),
+         ("cubes", "1 red red red red red r\u00e9d\n", "line 1: note: the colour r\u00e9d and the colour red of line 1"),
+         ("matching", "a A\nb B\nc C\nd D\ne E\nf F\ng G\nh H\ni I\nj J\nk K\nl L\n", "note: 2 more names differ"))
+
+
+def names_alike(trial: Generating) -> None:
+    """Of names that differ in capitals, blanks or accents alone it is told, with both lines; the file is made all the same."""
+    for kind, text, wanted in ALIKE:
+        file = trial.path("alike.csv", f"{HEAD}\n{text}" if kind == "timetable" else text)
+        ended = trial.python("examples/generate.py", kind, file)
+        told = ended.stderr
+        trial.expect(f"{text}: {told}", ended.returncode == 0 and (wanted in told if wanted else not told) and told.count("\n") <= 11)
+    rules = trial.path("alike-rules.csv", "who,away\nmuller,Mon1\n")
+    ended = trial.python("examples/generate.py", "timetable", trial.path("alike.csv", f"{HEAD}\na,M\u00fcller,5a,r,Mon1-2\n"), "--rules", rules)
+    trial.expect(f"the name that a rule may mean: {ended.stderr}", ended.returncode == 3 and "line 2: no lesson has" in ended.stderr
+                 and "'muller'; there is M\u00fcller" in ended.stderr)
+
+
 def long_names(trial: Generating) -> None:
     """Names that don't fit into 32 bytes have numbers in the file, and are whole in plans."""
     lesson, teacher = "Mathematics for those who like it", "\u041a\u043e\u043d\u0441\u0442\u0430\u043d\u0442\u0438\u043d\u043e\u0432\u0430" * 2
@@ -297,7 +323,8 @@ def no_texts(trial: Generating) -> None:
 # how each kind is drawn by lot, and what generate.py wants behind the file
 PUZZLES: dict[str, tuple[Callable[[random.Random], Union[drawn_puzzles.Drawn, drawn_puzzles.DrawnTwice]], list[str], list[str]]] = {
     **{f"sudoku of {size}": (functools.partial(drawn_puzzles.sudoku, size=size), ["sudoku"], []) for size in (4, 6, 9, 12, 16)},
-    "diagonals": (drawn_puzzles.diagonals, ["sudoku"], ["--diagonals"]), "jigsaw": (drawn_puzzles.jigsaw, ["jigsaw"], []),
+    "diagonals": (drawn_puzzles.diagonals, ["sudoku"], ["--diagonals"]), "hyper": (drawn_puzzles.hyper, ["sudoku"], ["--hyper"]),
+    "jigsaw": (drawn_puzzles.jigsaw, ["jigsaw"], []),
     "killer": (drawn_puzzles.killer, ["killer"], []), "kakuro": (drawn_puzzles.kakuro, ["kakuro"], []), "stars": (drawn_puzzles.stars, ["stars"], []),
     "two stars": (functools.partial(drawn_puzzles.stars, size=10, count=2), ["stars"], ["--stars", "2"]),
     "three stars": (lambda draw: drawn_puzzles.stars(random.Random(1), 14, 3), ["stars"], ["--stars", "3"]),
@@ -459,7 +486,7 @@ def wrong_boards(trial: Generating) -> None:
     trial.expect(f"what would fit: {told.stderr}", told.returncode == 3 and "with --repeat" in told.stderr)
 
 
-TESTS = (schools, same_covers, joint_lessons, rooms_at_once, names_in_lines, spellings, long_names, plans_in_order, rules_are_tested, wrong_tables, no_texts, puzzles,
+TESTS = (schools, same_covers, joint_lessons, rooms_at_once, names_in_lines, spellings, names_alike, long_names, plans_in_order, rules_are_tested, wrong_tables, no_texts, puzzles,
          other_answers, words_from_input, solids, all_covers, no_answers, wrong_boards)
 
 

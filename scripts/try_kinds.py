@@ -86,7 +86,8 @@ NONE = ((["queens", "3"], "There is no solution."), (["langford", "5"], "each op
 
 def reasons(trial: Solving) -> None:
     """What is told where there is no answer, in the puzzle's words."""
-    for words, told in (*NONE, (["sudoku", trial.path("four.txt", "12..\n..3.\n....\n...3\n")], "nothing is possible for a 3 in box 1")):
+    for words, told in (*NONE, (["sudoku", trial.path("four.txt", "12..\n..3.\n....\n...3\n")], "nothing is possible for a 3 in box 1"),
+                                (["sudoku", trial.path("eight.txt", SUDOKU.replace("7 .", "7 2", 1))], "nothing is possible for an 8 in box 2")):
         status, lines, errors = trial.run(*words)
         trial.expect(f"{words}: {status} {lines} {errors}", status == (1 if told else 0) and told in "\n".join(lines))
     cubes = trial.path("cubes.txt", "one r r r r r r\ntwo r r r r r b\n")
@@ -203,6 +204,42 @@ def schools(trial: Solving) -> None:
     trial.expect(f"two parts: {status} {errors} {parts}", status == 0 and parts == ["parts-1.csv", "parts-2.csv"])
 
 
+def plan_files(trial: Solving) -> None:
+    """Plans as people read them: one table of all that are wanted, and a folder with files of each."""
+    week, plan, folder = trial.path("grid.csv"), trial.path("rows.csv"), trial.path("plans")
+    status, lines, errors = trial.run("timetable", os.path.join(TOP, "examples", "school.csv"), "--plan", "5a", "teachers", "--grid", week, "--csv", plan,
+                                      "--out-dir", folder)
+    trial.expect(f"plans in files: {status} {errors}", status == 0 and not lines)
+    with open(week, encoding="utf-8") as grid, open(plan, encoding="utf-8") as rows:
+        blocks, given = grid.read().split("\n\n"), [line.split(";") for line in rows.read().splitlines()[1:]]
+    tables = [[row.split(";") for row in block.splitlines()] for block in blocks]
+    cells = {(rows[0][0], f"{day}{row[0]}"): cell.split()[0] for rows in tables for row in rows[1:] for day, cell in zip(rows[0][1:], row[1:]) if cell}
+    wanted = {(who, period): lesson for lesson, teachers, classes, _, periods, _ in given for period in periods.split()
+              for who in f"{teachers}+{classes}".split("+") if who != "5b"}
+    trial.expect(f"periods down and days across: {cells}", wanted == cells and len(blocks) == 6)
+    found = {name: os.path.getsize(os.path.join(folder, name)) for name in os.listdir(folder)}
+    trial.expect(f"files of each: {found}", found.keys() == {f"{who}.{ending}" for who, _ in wanted for ending in ("csv", "svg")} and all(found.values()))
+    for name, block in zip(("5a", "adams", "bell"), blocks):
+        with open(os.path.join(folder, f"{name}.csv"), encoding="utf-8") as one:
+            trial.expect(f"the table of {name}", one.read().strip() == block.strip())
+        trial.expect(f"the picture of {name}", name in "".join(ElementTree.parse(os.path.join(folder, f"{name}.svg")).getroot().itertext()))
+
+
+def odd_plans(trial: Solving) -> None:
+    """Plans of names that can't be those of files, plans without days, and what can't be written."""
+    odd = trial.path("odd.csv", "lesson;class;teacher;periods\nart;5/a;.;1-3\nmusic;5_a;bob;1-3\nsport;..;cy;1-3\n")
+    folder = trial.path("odd-plans")
+    status, _, errors = trial.run("timetable", odd, "--plan", "all", "--out-dir", folder)
+    found = sorted(name for name in os.listdir(folder) if name.endswith(".svg"))
+    trial.expect(f"names of files: {status} {errors} {found}", status == 0 and found == ["5_a-2.svg", "5_a.svg", "_-2.svg", "_.svg", "bob.svg", "cy.svg"])
+    status, lines, errors = trial.run("timetable", odd, "--plan", "5_a", "--grid", "-")
+    trial.expect(f"a plan without days: {lines}", status == 0 and lines[0] == "5_a;lesson" and len(lines) == 4)
+    for what, wanted, words in (("a folder that is a file", 3, ["--out-dir", odd]), ("two on the standard output", 2, ["--grid", "-", "--csv", "-"]),
+                                ("a table nowhere", 3, ["--grid", trial.path("nowhere/x.csv")])):
+        status, _, errors = trial.run("timetable", odd, *words)
+        trial.expect(f"{what}: {status} {errors}", status == wanted and errors.startswith("zarfepoch: ") and "Traceback" not in errors)
+
+
 def written(trial: Solving) -> None:
     """Files that are wanted, and exit statuses."""
     picture, problem = trial.path("picture.svg"), trial.path("problem.dlx")
@@ -258,6 +295,8 @@ def spellings(trial: Solving) -> None:
     trial.expect("boxes that can't be", trial.run("sudoku", six, "--boxes", "2x2")[0] == 3)
     grid, words = trial.path("grid.txt", "..\n#.\n"), trial.path("words.txt", "AB\nbc\nx\nx1y\n")
     trial.expect("capitals", trial.run("crossword", grid, words)[0] == 3)
+    status, _, errors = trial.run("crossword", trial.path("capitals.txt", "AB\n"), trial.path("small.txt", "ab\n"))
+    trial.expect(f"what makes capitals alike: {errors}", status == 1 and "with --ignore-case they are alike" in errors)
     status, lines, errors = trial.run("word-square", "--ignore-case", "--one", trial.path("square.txt", "Ab\ncd\nac\nbd\n"))
     trial.expect(f"a square of words in two cases: {lines} {errors}", status == 0 and lines in (["a b", "c d"], ["a c", "b d"]))
     status, lines, errors = trial.run("crossword", grid, words, "--ignore-case")
@@ -334,7 +373,7 @@ def main() -> int:
     with tempfile.TemporaryDirectory(prefix="try-kinds-") as folder:
         trial = Solving(given.program, folder)
         all_kinds(trial, given.times)
-        for tests in (only_ones, reasons, mistyped, all_solutions, schools, written, spellings, number_grids, pages):
+        for tests in (only_ones, reasons, mistyped, all_solutions, schools, plan_files, odd_plans, written, spellings, number_grids, pages):
             tests(trial)
     return trial.end()
 

@@ -26,7 +26,7 @@ import sys
 import tempfile
 import time
 from collections import Counter
-from collections.abc import Hashable, Iterator
+from collections.abc import Hashable, Iterable, Iterator
 from typing import Callable, Optional, TypeVar, Union
 
 from built import SOLVE_CLI, TOP, parser_of, want_program, path_of
@@ -113,6 +113,23 @@ def cliques() -> None:
     reason = problem.reason()
     rooms: dict[Hashable, int] = {Clique(tuple(range(4 * slot, 4 * slot + 4))): 1 for slot in range(3)}
     expect(f"a reason by cliques: {reason!r}", reason == Reason(None, {}, dict.fromkeys("efgh", 1), rooms))
+
+
+def twos(people: Iterable[int]) -> list[frozenset[int]]:
+    """Each two of some people."""
+    return [frozenset(two) for two in itertools.combinations(people, 2)]
+
+
+def golfers() -> None:
+    """People who meet in groups on some evenings, each two at most once: counting tells where each meets others more often than there are others."""
+    for people, size in ((6, 2), (8, 4), (9, 3)):
+        for evenings in range(1, people // (size - 1) + 1):
+            options: list[list[Hashable]] = [[*((evening, one) for one in group), *twos(group)] for evening in range(evenings)
+                                             for group in itertools.combinations(range(people), size)]
+            found = zarfepoch.reasons(options, itertools.product(range(evenings), range(people)), twos(range(people)))
+            wanted = evenings * (size - 1) >= people
+            expect(f"{people} people in groups of {size}, {evenings} evenings: {found}", (found is not None) == wanted)
+            expect("what is needed, and what there is", not found or sum(found.needs.values()) > sum(found.rooms.values()))
 
 
 def plain_covers(primary: int, options: list[Numbered], chosen: list[int], live: list[int]) -> Iterator[frozenset[int]]:
@@ -220,6 +237,7 @@ def errors() -> None:
         (zarfepoch.ColoredPrimary, lambda: Problem(options=[["a"], ["b", Colored("x", 1)]]), 1, "x"),
         (zarfepoch.ProblemError, lambda: zarfepoch.solve(["ab"]), 0, None),
         (zarfepoch.ProblemError, lambda: zarfepoch.solve([["a"], {"b": 1}]), 1, None),
+        (zarfepoch.ProblemError, lambda: zarfepoch.solve([["a"], 1]), 1, None),  # type: ignore[list-item]
         (zarfepoch.ProblemError, lambda: zarfepoch.chosen({"A": ["a"]}), None, None),
         (zarfepoch.ProblemError, lambda: Problem(["a b"]).text(), None, "a b"),
         (zarfepoch.ProblemError, lambda: Problem(["a"], ["x"], [["a", Colored("x", "1:2")]]).text(), 0, "1:2"),
@@ -440,6 +458,7 @@ def main() -> int:
     examples()
     random_answers()
     cliques()
+    golfers()
     all_by_both()
     many_covers()
     errors()

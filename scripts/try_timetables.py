@@ -28,7 +28,7 @@ from expected import Trial
 from plain_search import branching, read
 from plan_rules import choices, faults, Given, joined, read_plan, rows_of, Row, runs_in, times_of
 from planned_schools import planned, Tables
-from zarfepoch.answers import planned as answered
+from zarfepoch.answers import movable, planned as answered
 from zarfepoch.cover_files import read_answer, read_problem
 from zarfepoch.picture_kinds import picture_of
 from zarfepoch.timetable_pictures import Timetable
@@ -205,6 +205,15 @@ def schools(trial: Planning, times: int) -> None:
             trial.expect("nothing changes where nothing has to", sorted(trial.plan(tables, plan).split("\n")) == sorted(plan.split("\n")))
 
 
+def soon_more(trial: Planning) -> None:
+    """Where no time is left, more lessons may move after each search, up to all of them but a third."""
+    tables = planned(1)
+    school = read_school(trial.path("school.csv", tables.lessons), trial.path("rules.csv", tables.rules))
+    [timetable] = timetables(school, kept_plan(trial.path("before.csv", trial.plan(tables)), school))
+    sizes = [len(released) for released in movable(timetable, random.Random(1), 0)]
+    trial.expect(f"ever more lessons may move: {sizes}", sizes == sorted(set(sizes)) and sizes[0] == 0 and 3 * sizes[-1] >= 2 * len(timetable.lessons))
+
+
 def wrong_plans(trial: Planning) -> None:
     """plan_rules.py finds what is wrong with a plan."""
     tables = planned(1)
@@ -265,6 +274,11 @@ def refusals(trial: Planning) -> None:
 IMPOSSIBLE = (
     ("a double lesson and one on each day", "maths;ann;5a;;Mon-Tue1-2;2;;1;;;\nart;bob;5a;;Mon-Tue1-2;1;2;;;;\nmusic;cy;5b;;Mon1;1;;;;;\n", "",
      "Of 5a: these 2 rows can't be together:\n  line 2: maths 2, at most 1 a day (ann; 5a), Mon1-2 Tue1-2\n  line 3: art 1 x 2 (bob; 5a), Mon1-2 Tue1-2"),
+    ("a day with too many lessons", "".join(f"{one};{one}{one};5a;;Mon1-2 {day}1-2;2;;1;;;\n" for one, day in zip("abc", ("Tue", "Wed", "Thu"))), "",
+     "lines 2, 3, 4: there is no timetable: 5a has 3 periods of lessons that have to be on Mon (a 2, b 2, c 2), since their other days are too few, and only 2 "
+     "there: Mon1-2"),
+    ("a day with too many lessons of a teacher", "".join(f"{one};ann;5{one};;Mon1-3 {day}1-2;2;;1;;;\n" for one, day in zip("abc", ("Tue", "Wed", "Thu"))),
+     "ann;;;2;\n", "ann has 3 periods of lessons that have to be on Mon (a 2, b 2, c 2), since their other days are too few, and at most 2 (line 3 of the rules)"),
     ("a lesson that is fixed", "maths;ann;5a;;Mon-Tue1-2;2;;1;;Mon1;\nart;bob;5a;;Mon-Tue1-2;1;2;;;;\n", "",
      "  line 2: maths 2, at most 1 a day (ann; 5a), Mon1-2 Tue1-2, fixed at Mon1\n"),
     ("a room's rule", "a;gross;5a;hall;Mon-Tue1-3;3;;;;;\nb;bob;5b;;Mon-Tue1-3;1;;;;;\n", "hall;Mon1 Tue1;;;\n",
@@ -307,7 +321,7 @@ def main() -> int:
         trial = Planning(given.program, folder)
         same_plans(trial, given.times)
         schools(trial, given.times)
-        for tests in (wrong_plans, refusals, impossible, parts):
+        for tests in (soon_more, wrong_plans, refusals, impossible, parts):
             tests(trial)
     return trial.end()
 

@@ -14,8 +14,8 @@ from .timetables import Timetable
 TRY_VISITS = 2_000
 # for so many seconds a plan is looked for where no time is told, before parts of the school are tried by themselves
 TRY_SECONDS = 20.0
-# so many choices of lessons that may move are tried before more of them may
-CHOICES = 30
+# so many choices of lessons that may move are tried before more of them may, or fewer, one at least, where they take more than this part of the time
+CHOICES, SHARE = 30, 1 / 20
 
 
 class Answered(NamedTuple):
@@ -53,15 +53,17 @@ def near_first(timetable: Timetable, released: set[str]) -> list[list[str]]:
     return rings
 
 
-def movable(timetable: Timetable, draw: random.Random) -> Iterator[set[str]]:
-    """Choices of lessons that may move where a plan is kept: those that can't stay, and ever more of those that have to do with them."""
+def movable(timetable: Timetable, draw: random.Random, seconds: float) -> Iterator[set[str]]:
+    """Choices of lessons that may move where a plan is kept: those that can't stay, and ever more of those that have to do with them, as far as their
+    searches take so many seconds."""
     unfit = timetable.unfit()
     yield unfit
     near = near_first(timetable, unfit)
     for size in itertools.accumulate(itertools.repeat(2), lambda size, _: size * 3 // 2):
         if size > len(timetable.lessons):
             return
-        for _ in range(CHOICES):
+        until = time.monotonic() + SHARE * seconds
+        for _ in itertools.takewhile(lambda number: not number or time.monotonic() < until, range(CHOICES)):
             order = [name for ring in near for name in draw.sample(ring, len(ring))]
             yield unfit | set(order[:size])
 
@@ -80,7 +82,7 @@ def planned(program: str, timetable: Timetable, is_kept: bool, seconds: float) -
     """The answer to the problem of a timetable, where it is found in so many seconds. Where a plan is kept, short searches come first, in which ever
     more of its lessons may move; their `none` says nothing of the problem as it is."""
     limit = time.monotonic() + seconds
-    choices = movable(timetable, random.Random(1)) if is_kept else iter(())
+    choices = movable(timetable, random.Random(1), seconds) if is_kept else iter(())
     for released in itertools.takewhile(lambda _: time.monotonic() < limit, choices):
         found = shortly(program, timetable.kept(released))
         if found.status not in (1, 4):

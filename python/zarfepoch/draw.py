@@ -1,6 +1,6 @@
 """Draws an answer to a problem file: as text in the terminal, and as a picture in SVG.
 
-    python3 scripts/draw.py FILE ANSWER [--svg OUT] [--plan NAME ..] [--csv OUT]
+    python3 scripts/draw.py FILE ANSWER [--svg OUT] [--plan NAME ..] [--csv PLAN.csv] [--grid WEEK.csv] [--out-dir FOLDER]
     crates/solve_cli/out/solve_cli answer FILE | python3 scripts/draw.py FILE -
 
 The kind of picture follows from the names of the items: tilings (cells are named by row and column, as 07, 0011 or 3-12) and solids (by layer,
@@ -13,7 +13,9 @@ empty board is drawn where there is one; what `solve --audit` or `answer --reaso
 
 Of a timetable whose periods have their days (Mon1) a plan is drawn for each class, or for those whom --plan names: names of classes, teachers
 or rooms, or classes, teachers, rooms or all. A week begins with Monday, and a sheet is at most 1,200 pixels wide. --csv writes the plan as a
-table, a row for each time that a lesson is given, for a spreadsheet and for generate.py timetable --keep; where its OUT is `-`, in place of the text.
+table, a row for each time that a lesson is given, for a spreadsheet and for generate.py timetable --keep. --grid writes the same plans as are drawn, as
+a table that people read, with a row for each number of a period and a column for each day. Where one of these files is `-`, it is written in place of
+the text. --out-dir writes a picture NAME.svg and such a table NAME.csv into a folder for each of those whose plans are drawn.
 
 Comments of the file that generate.py writes say what items can't: the given digits of a sudoku, its regions and the marks for its digits
 (`| given: 4.3. ..`, `| regions: aabb ..`, `| digits: 0123..`), the grid of a crossword (`| grid: ..#.. ..`), the size of a kakuro, the
@@ -26,6 +28,7 @@ exit status is 0, 2 for a mistake on the command line, 3 for a file or an answer
 """
 from __future__ import annotations
 
+import argparse
 import sys
 from argparse import Namespace
 
@@ -33,6 +36,7 @@ from .command_words import parser_of
 from .cover_files import Answer, Problem, Unreadable, complain, put, read_audited, read_bytes, read_problem, refusal, run, shown, stop
 from .picture_base import Kind
 from .picture_kinds import picture_of
+from .plan_files import grid_of, timetable_of, write_each
 from .puzzle_texts import called
 from .svg_paper import Paper
 from .timetable_pictures import Timetable
@@ -96,13 +100,21 @@ def planned(picture: Kind, words: list[str]) -> Kind:
     return picture
 
 
-def table_of(picture: Kind) -> str:
-    """The plan of a timetable as CSV; ends the script where the answer has none."""
-    if not isinstance(picture, Timetable):
-        stop("--csv is for timetables, and this is none")
-    if picture.is_none:
-        stop("there is no plan, so --csv writes none", 3)
-    return picture.table()
+def write_plans(given: Namespace, picture: Kind, title: str) -> None:
+    """Writes the plans of a timetable as the tables and into the folder that the command line wants."""
+    if given.csv:
+        write_out(given.csv, timetable_of(picture, "--csv").table())
+    if given.grid:
+        write_out(given.grid, grid_of(picture))
+    if given.out_dir:
+        write_each(given.out_dir, picture, title)
+
+
+def add_tables(parser: argparse.ArgumentParser) -> None:
+    """Adds what a command has for the plans of a timetable as files."""
+    parser.add_argument("--csv", metavar="PLAN.csv", help="of a timetable, where the plan is written as a table with a row for each time of a lesson")
+    parser.add_argument("--grid", metavar="WEEK.csv", help="of a timetable, where plans are written as a table that people read, with days across")
+    parser.add_argument("--out-dir", metavar="FOLDER", help="of a timetable, where each plan is written as a picture and a table of its own")
 
 
 def main() -> int:
@@ -112,12 +124,12 @@ def main() -> int:
     parser.add_argument("--svg", metavar="OUT", help="where the picture is written, - for the standard output")
     parser.add_argument("--plan", metavar="NAME", nargs="+", action="extend", default=[],
                         help="of a timetable, whose plans are drawn: names, or classes, teachers, rooms or all")
-    parser.add_argument("--csv", metavar="OUT", help="of a timetable, where the plan is written as a table, - for the standard output")
+    add_tables(parser)
     given = parser.parse_args()
     if given.file == given.answer == "-":
         parser.error("- is the standard input, which can be read once")
-    if given.svg == given.csv == "-":
-        parser.error("- is the standard output, which takes one of picture and table")
+    if [given.svg, given.csv, given.grid].count("-") > 1:
+        parser.error("- is the standard output, which takes one of picture and tables")
     problem, title, answer = read_files(given)
     chosen = [problem.options[place] for _, place in answer.chosen]
     picture = planned(picture_of(problem, chosen, answer.kind == "none"), given.plan)
@@ -125,9 +137,8 @@ def main() -> int:
         paper = Paper(title)
         picture.draw(paper)
         write_out(given.svg, paper.svg())
-    if given.csv:
-        write_out(given.csv, table_of(picture))
-    if "-" not in (given.svg, given.csv):
+    write_plans(given, picture, title)
+    if "-" not in (given.svg, given.csv, given.grid):
         print("\n".join(picture.text()))
     if answer.kind == "cover" and (answer.uncovered(problem) or answer.covered_twice(problem)):
         complain(f"this is no exact cover; scripts/explain.py {given.file} {given.answer} tells why")

@@ -22,7 +22,7 @@ from typing import Optional
 from .command_words import parser_of
 from .cover_files import MAX_COLOURS, MAX_ITEMS, MAX_OCCURRENCES, MAX_OPTIONS, Answer, Fault, Line, TooLarge, Unreadable, Word
 from .cover_files import is_comment, lines_of, Problem, read_answer, read_bytes, read_problem, refusal, run, shown
-from .cover_reason import found_reason
+from .even_room import any_reason
 from .fault_words import answer_fault_words, fault_words, grouped, listed, looks, plural, quoted
 from .full_names import named_numbers
 from .programs import known_program
@@ -164,7 +164,7 @@ def room_words(problem: Problem, text: bytes) -> Iterator[str]:
     program, reason = known_program(), None
     # (the reason is an extra, so a program that can't be run takes nothing away)
     with contextlib.suppress(OSError):
-        reason = found_reason(program, text) if program else None
+        reason = any_reason(program, text, problem) if program else None
     if reason and not reason.modulus and reason.rooms and reason.holds(problem):
         first, *others = reason.words(problem)
         yield f"{first}, so there is no cover"

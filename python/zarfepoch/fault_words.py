@@ -2,6 +2,7 @@
 from __future__ import annotations
 
 import difflib
+import re
 import unicodedata
 from collections.abc import Iterator, Sequence
 from typing import Callable, Optional
@@ -20,6 +21,11 @@ AUDIT = "the line of an audit is no part of the answer: leave it out, as by grep
 def plural(count: int, what: str, with_count: bool = True) -> str:
     ending = what if count == 1 else what + "s"
     return f"{count:,} {ending}" if with_count else ending
+
+
+def with_article(mark: object) -> str:
+    """A digit, a number or a letter behind `a` or `an`, as people say it."""
+    return ("an " if re.fullmatch(r"8\d?|11|18|[AEFHILMNORSXaefhilmnorsx]", str(mark)) else "a ") + str(mark)
 
 
 def quoted(name: bytes) -> str:

@@ -84,7 +84,7 @@ from . import sudokus
 from . import timetables
 from .cover_files import complain, MAX_COLOURS, MAX_ITEMS, MAX_NAME, MAX_OCCURRENCES, MAX_OPTIONS, put_bytes, run, shown, stop
 from .fault_words import plural
-from .name_texts import as_seen, in_one_case, names_in, want_one_spelling, words_of
+from .name_texts import as_seen, hint_alike, in_one_case, names_in, want_one_spelling, words_of
 from .pieces import filled, named_pieces, read_board, read_pieces
 from .puzzle_texts import Puzzle, blocks_of, called, no_cover, read_text, refuse, rows_of, UNREADABLE
 from .timetable_plans import read_plan
@@ -355,14 +355,23 @@ def read_pairs(path: str, of_places: bool = False) -> list[Pair]:
             refuse(path, number, f"'{wrong}' can't be a place here: '-' and '=' are in the names of borders")
     named = [(number, word) for number, words in lines for word in words]
     want_one_spelling(path, *(("place", named, in_one_case) if of_places else ("name", named, as_seen)))
+    hint_alike(path, "place" if of_places else "name", named)
     return list(dict.fromkeys((words[0], words[1]) for _, words in lines))
+
+
+def want_one_colour(path: str, what: str, lines: list[tuple[int, list[str]]]) -> None:
+    """Refuses two spellings of a colour behind the name of what has it, and tells of names that may be one."""
+    colours = [(number, word) for number, words in lines for word in words[1:]]
+    want_one_spelling(path, "colour", colours, in_one_case)
+    hint_alike(path, "colour", colours)
+    hint_alike(path, what, [(number, words[0]) for number, words in lines])
 
 
 def read_squares(path: str) -> Pieces:
     """Squares by their names, each with its four colours."""
     found: Pieces = {}
     lines = some_words(path)
-    want_one_spelling(path, "colour", [(number, word) for number, words in lines for word in words[1:]], in_one_case)
+    want_one_colour(path, "square", lines)
     for number, (name, *colours) in lines:
         if len(colours) != 4:
             refuse(path, number, f"a name and four colours are expected, and here are {', '.join([name, *colours])}")
@@ -492,7 +501,7 @@ def nonogram(note: str, rows: list[puzzles.Blocks], columns: list[puzzles.Blocks
 def read_cubes(path: str) -> Pieces:
     """Cubes by their names, each with its six colours."""
     lines = some_words(path)
-    want_one_spelling(path, "colour", [(number, word) for number, words in lines for word in words[1:]], in_one_case)
+    want_one_colour(path, "cube", lines)
     for number, words in lines:
         if len(words) != 7 or [other[0] for _, other in lines].count(words[0]) > 1 or re.match(r"(front|right|back|left)-", words[0]):
             refuse(path, number, f"a cube's own name and six colours are expected, and here are {', '.join(words)}")
@@ -550,7 +559,7 @@ def given_colors(path: str, borders: list[Pair], colors: list[str]) -> dict[str,
 def colored_map(given: Namespace, note: str) -> None:
     borders = read_pairs(given.file, of_places=True)
     colors = [color.strip() for color in given.colors.split(",")]
-    if "" in colors or len(set(colors)) < len(colors):
+    if "" in colors or len(set(map(in_one_case, colors))) < len(colors):
         stop(f"--colors takes different names with commas between, not '{given.colors}'")
     pairs = dict.fromkeys((min(pair), max(pair)) for pair in borders)
     put_down(note, puzzles.coloring(list(pairs), colors, given_colors(given.file, borders, colors)))

@@ -59,8 +59,8 @@ def solution_words(only: Sequence[str], several: Sequence[str]) -> list[str]:
     """What is told of the changes after which there is one solution, and of those after which there are several."""
     if not only:
         return [f"There is a solution {listed(several)}."] if several else []
-    others = f"With one of {plural(len(several), 'other change')} there are several." if several else ""
-    return [f"There is exactly one solution {listed(only)}.", *([others] if others else [])]
+    others = ["With one other change there are several."] if len(several) == 1 else [f"With one of {len(several)} other changes there are several."]
+    return [f"There is exactly one solution {listed(only)}.", *(others if several else [])]
 
 
 def told_changes(program: str, changes: Sequence[Change], seconds: float = SECONDS) -> list[str]:
@@ -72,7 +72,7 @@ def told_changes(program: str, changes: Sequence[Change], seconds: float = SECON
         counts.append(count_of(program, change, max(QUESTION, seconds / 10)))
     told = solution_words(*([change.words for change, count in zip(changes, counts) if count == wanted] for wanted in (1, 2)))
     if len(counts) < len(changes):
-        return [*told, f"({len(counts)} of {len(changes)} givens were looked at, in {seconds:g} seconds.)"]
+        return [*told, f"({len(counts)} of {len(changes)} givens were looked at, in {seconds:g} second{'s' * (seconds != 1)}.)"]
     if changes and not any(counts) and None not in counts:
         return [f"More than one of its {plural(len(changes), 'given')} is wrong: no change of one alone helps."]
     return told

@@ -5,9 +5,14 @@ import re
 import unicodedata
 from collections.abc import Callable, Iterable
 
-from .cover_files import shown
-from .puzzle_texts import refuse, rows_of
+from .cover_files import complain, shown
+from .puzzle_texts import called, refuse, rows_of
 
+# letters whose marks are part of them, and the vowels that some write with an e behind in place of two dots
+PLAIN = str.maketrans("\u00f8\u0142\u0111\u0131", "oldi")
+DOTTED = str.maketrans({"\u00e4": "ae", "\u00f6": "oe", "\u00fc": "ue"})
+# of so many pairs of names that may be one it is told
+MOST_TOLD = 10
 # a name in quotation marks, or a run of what parts none
 WORD = re.compile(r'"([^"]*)"(?=[\s,;]|$)|([^\s,;]+)')
 
@@ -49,3 +54,27 @@ def want_one_spelling(path: str, what: str, names: Iterable[tuple[int, str]], sp
         if before != name:
             refuse(path, number, f"the {what} {shown(name.encode())} and the {what} {shown(before.encode())} of line {line} would be two: "
                    f"write one {what} in one way")
+
+
+def loose(name: str) -> set[str]:
+    """What names share that differ in capitals, accents, or blanks, hyphens and full stops alone, which count only between digits."""
+    seen = re.sub(r"(?<!\d)[\s._-]+|[\s._-]+(?!\d)", "", as_seen(name).casefold())
+    plain = "".join(letter for letter in unicodedata.normalize("NFKD", seen) if not unicodedata.combining(letter))
+    return {plain.translate(PLAIN), seen.translate(DOTTED)} - {""}
+
+
+def hint_alike(path: str, what: str, names: Iterable[tuple[int, str]]) -> None:
+    """Tells of names that may be one, since they differ in capitals, blanks or accents alone; each comes with its line."""
+    first: dict[str, int] = {}
+    for number, name in names:
+        first.setdefault(name, number)
+    keys: dict[str, str] = {}
+    pairs = dict[tuple[str, str], None]()
+    for name in first:
+        pairs.update(((name, keys[key]), None) for key in sorted(loose(name)) if key in keys)
+        keys.update((key, name) for key in loose(name) if key not in keys)
+    for name, before in list(pairs)[:MOST_TOLD]:
+        complain(f"{called(path)}, line {first[name]}: note: the {what} {shown(name.encode())} and the {what} {shown(before.encode())} of line "
+                 f"{first[before]} count as two; if they are one, write the name in one way")
+    if len(pairs) > MOST_TOLD:
+        complain(f"{called(path)}: note: {len(pairs) - MOST_TOLD} more names differ from others in capitals, blanks or accents alone")

@@ -10,7 +10,7 @@ from collections.abc import Iterator
 from typing import Optional
 
 from .cover_files import MAX_OPTIONS
-from .fault_words import plural
+from .fault_words import plural, with_article
 from .name_texts import names_in
 from .picture_base import cell_words
 from .puzzle_texts import blocks_of, Change, no_cover, Puzzle, refuse, rows_of
@@ -77,7 +77,7 @@ def replaced(path: str, values: dict[Cell, int], most: int) -> list[Change]:
     if sorted(wrong.values()) != [-1, 1]:
         return []
     lacking, often = sorted(wrong, key=wrong.__getitem__)
-    return [Change(f"with a {lacking} in place of the {often} in {cell_words(cell)}",
+    return [Change(f"with {with_article(lacking)} in place of the {often} in {cell_words(cell)}",
                    functools.partial(dominoes_on, path, {**values, cell: lacking}, most))
             for cell, value in values.items() if value == often]
 

@@ -4,6 +4,7 @@ from __future__ import annotations
 import itertools
 import re
 
+from .fault_words import with_article
 from .grid_pictures import line_words, WHITE
 from .picture_base import Cell, CELL, cell_of, cell_words, Kind, known_cell, LARGEST
 from .svg_paper import ACCENT, Board, FAINT, FILLS, INK, Paper
@@ -115,7 +116,7 @@ class LatinSquare(Grid):
 
     def item_words(self, item: str) -> str:
         found = re.fullmatch(r"([rc])(\d)(\d)", item)
-        return f"a {found[3]} in {'row' if found[1] == 'r' else 'column'} {int(found[2]) + 1}" if found else super().item_words(item)
+        return f"{with_article(found[3])} in {'row' if found[1] == 'r' else 'column'} {int(found[2]) + 1}" if found else super().item_words(item)
 
 
 class Futoshiki(LatinSquare):
@@ -153,8 +154,9 @@ class Futoshiki(LatinSquare):
     def draw(self, paper: Paper) -> None:
         given, digits, step = self.told_rows("given"), self.digits(), CELL + self.SPACE
         for r, c in itertools.product(range(len(given)), repeat=2):
-            paper.box(c * step, r * step, CELL, CELL, "#ebe6da" if given[r][c] != "." else WHITE, INK, 1.2)
-            paper.text(c * step + CELL / 2, r * step + CELL / 2, digits.get((r, c), ""), 20, fill=INK if given[r][c] != "." else ACCENT)
+            is_given = given[r][c] != "."
+            paper.box(c * step, r * step, CELL, CELL, "#ebe6da" if is_given else WHITE, INK, 1.2)
+            paper.text(c * step + CELL / 2, r * step + CELL / 2, digits.get((r, c), ""), 20, fill=INK if is_given else ACCENT, bold=is_given)
         for (r, c), (below, right) in self.less():
             x, y = (c + right) / 2 * step + CELL / 2, (r + below) / 2 * step + CELL / 2
             wide, high, sign = (5, 7, 1 if right > c else -1) if r == below else (7, 5, 1 if below > r else -1)

@@ -13,6 +13,7 @@ from .all_covers import Covers, Run
 from .cover_files import MAX_COLOURS, MAX_ITEMS, MAX_NAME, MAX_OCCURRENCES, MAX_OPTIONS
 from .errors import (
     ColoredPrimary, NoAnswer, OutOfMemory, ProblemError, ProgramError, RepeatedItem, TimeIsUp, TooLarge, UncleanAudit, UnknownItem, WrongNumber)
+from .even_room import even_room
 from .fault_words import fault_words
 from .programs import find_program, own_words, tied
 from .search_parts import part_text, places_in, Prefix, Tree
@@ -194,16 +195,21 @@ class Problem:
             yield from (sorted(kept[place] for place in cover) for cover in found)
 
     def reason(self, seconds: Optional[float] = None) -> Optional[Reason]:
-        """Why there is no cover, if the program finds a reason without a search. None says nothing."""
+        """Why there is no cover, if the program finds a reason without a search, or counting items that are alike does. None says nothing."""
         status, answer, why = self._ask(["why", "-"], self._numbered_lines(), seconds)
+        problem = cover_files.read_problem(self._numbered_text(self._numbered_lines()))
         if (status, answer) == (4, ["no reason found"]):
-            return None
+            found = even_room(problem)
+            return self._named_reason(found) if found else None
         if status != 1:
             raise failure(status, why)
-        text = "\n".join(answer).encode()
-        found = cover_reason.Reason(text)
-        if not found.holds(cover_files.read_problem(self._numbered_text(self._numbered_lines()))):
+        found = cover_reason.Reason("\n".join(answer).encode())
+        if not found.holds(problem):
             raise ProgramError("the program's reason doesn't hold", status)
+        return self._named_reason(found)
+
+    def _named_reason(self, found: cover_reason.Reason) -> Reason:
+        """A reason whose items have numbers for names, with the items themselves."""
         items: dict[bytes, Hashable] = {b"%d" % number: item for number, item in enumerate((*self.primary, *self.secondary))}
         kept = [place for place, option in enumerate(self) if self._is_kept(option)]
         items.update((name, Clique(tuple(kept[number] for number in numbers))) for name, numbers in found.cliques.items())
@@ -336,10 +342,12 @@ def want_list(options: object) -> None:
 
 
 def option_in(option: Iterable[Word], place: int) -> tuple[Word, ...]:
-    """An option of a list; `ProblemError` where it is one text or a dict, of which letters or keys would be the items."""
+    """An option of a list; `ProblemError` where it is one text or a dict, of which letters or keys would be the items, or no list."""
     if isinstance(option, (str, bytes, Mapping)):
         what, item = ("a dict", "item") if isinstance(option, Mapping) else (f"the text {option!r}", repr(option))
         raise ProblemError(f"option {place} is {what}: a list of items is expected, as [{item}]", option=place)
+    if not isinstance(option, Iterable):
+        raise ProblemError(f"option {place} is {option!r}: a list of items is expected, as [{option!r}]", option=place)
     return tuple(option)
 
 

@@ -68,7 +68,7 @@ def no_word(slot: str, run: list[Cell], grid: list[str], words: list[str]) -> No
     """That no word fits a place, and which one would but for capital and small letters."""
     small = next((word for word in words if fits(word.lower(), run, [row.lower() for row in grid])), None)
     way, number = slot.rstrip("0123456789"), slot.lstrip("acdnorsw")
-    hint = f"; '{small}' would, but capital and small letters differ" if small else ""
+    hint = f"; '{small}' would, but capital and small letters differ; with --ignore-case they are alike" if small else ""
     return NoSolution(f"no word of the list fits {number} {way}, '{''.join(grid[r][c] for r, c in run)}'{hint}", run[0][0])
 
 

@@ -9,7 +9,8 @@ The kinds are %KINDS%;
     zarfepoch sudoku puzzle.txt                     draws the answer in the terminal
     zarfepoch killer killer.txt --out killer.svg    draws it as a picture
     zarfepoch timetable school.csv --rules rules.csv --csv plan.csv
-                                                    plans a school, and writes the plan as a table too; --plan NAME .. draws the plans of these alone
+                                                    plans a school, and writes the plan as a table too; --plan NAME .. draws the plans of these alone,
+                                                    --grid WEEK.csv writes them as people read them, and --out-dir FOLDER each into files of its own
 
 Of each kind but timetables it is said whether the answer is the only one; --one leaves that out. Where there is no answer, it says why, if the
 program finds a reason without a search, and what may be mistyped: the puzzle is tried without each of its digits, sums or signs, for N seconds in all
@@ -44,9 +45,9 @@ from .another import free_name, others_of
 from .answers import Answered, answered, planned, TRY_SECONDS
 from .command_words import as_called, parser_of
 from .cover_files import complain, Problem, put, read_audited, read_problem, stop
-from .cover_reason import found_reason
-from .draw import planned as planned_picture, table_of, write_out
+from .draw import add_tables, planned as planned_picture, write_out, write_plans
 from .errors import NoProgram, OutOfMemory, ProgramError, TimeIsUp
+from .even_room import any_reason
 from .fault_words import plural
 from .impossible import core_of, core_words
 from .mistyped import SECONDS as CHANGE_SECONDS, told_changes
@@ -86,7 +87,7 @@ def command_line() -> argparse.ArgumentParser:
         words.add_argument("--problem", metavar="FILE.dlx", help="where the problem is written that the program gets")
         words.add_argument("--seconds", metavar="N", type=positive, default=argparse.SUPPRESS, help="how long a search may take")
         if words.prog.endswith("timetable"):
-            words.add_argument("--csv", metavar="PLAN.csv", help="where the plan is written as a table, - for the standard output")
+            add_tables(words)
             words.add_argument("--plan", metavar="NAME", nargs="+", action="extend", default=[], help="whose plans are drawn, as draw.py does")
     return parser
 
@@ -100,9 +101,10 @@ def positive(text: str) -> float:
 
 
 def asked_of_school(program: str, timetable: Timetable, given: Namespace) -> Answered:
-    """The program's answer to a timetable: for a third of the time, or by a part of the school that has none, or for the rest of the time."""
+    """The program's answer to a timetable: for a third of the time, or two where a plan is kept, or by a part of the school that has none, or for the rest
+    of the time."""
     began, limit = time.monotonic(), given.seconds or 3 * TRY_SECONDS
-    found = planned(program, timetable, bool(given.keep), limit / 3)
+    found = planned(program, timetable, bool(given.keep), (2 if given.keep else 1) * limit / 3)
     if (found is None or found.status == 1) and timetable.school:
         # (where it is known that there is none, all of the time is for the reason)
         core = core_of(program, timetable.school, limit - (time.monotonic() - began) if found else limit / 3, found is not None)
@@ -157,7 +159,7 @@ def only_words(program: str, problem: Problem, answer: bytes, seconds: Optional[
     limit = seconds or OTHER_SECONDS
     found = answered(program, text, limit)
     told = {0: "There is another solution; --all draws each.", 1: "It is the only solution."}
-    return told.get(found.status, f"Whether it is the only solution wasn't decided in {limit:g} seconds; --seconds N gives more.")
+    return told.get(found.status, f"Whether it is the only solution wasn't decided in {limit:g} second{'s' * (limit != 1)}; --seconds N gives more.")
 
 
 def draw(given: Namespace, picture: Kind, title: str) -> None:
@@ -166,16 +168,18 @@ def draw(given: Namespace, picture: Kind, title: str) -> None:
         paper = Paper(title)
         picture.draw(paper)
         write_out(given.out, paper.svg())
-    if getattr(given, "csv", None):
-        write_out(given.csv, table_of(picture))
-    if not given.out and getattr(given, "csv", None) != "-":
+    if given.kind == "timetable":
+        write_plans(given, picture, title)
+        if given.out_dir or "-" in (given.csv, given.grid):
+            return
+    if not given.out:
         print("\n".join(picture.text()))
 
 
 def tell_none(program: str, text: bytes, problem: Problem) -> None:
     """Says that there is no solution, and why, where that takes no search."""
     print("There is no solution.")
-    reason = found_reason(program, text)
+    reason = any_reason(program, text, problem)
     if reason and reason.holds(problem):
         print("\n".join(told_lines(problem, reason.words(problem, in_words(problem)))))
 
@@ -264,16 +268,18 @@ def in_parts(given: Namespace, number: int, count: int) -> Namespace:
     if count == 1:
         return given
     own = Namespace(**vars(given))
-    for name in ("out", "csv", "problem"):
+    for name in ("out", "csv", "grid", "out_dir", "problem"):
         path = getattr(given, name, None)
         if path and path != "-":
-            base, ending = os.path.splitext(path)
+            base, ending = os.path.splitext(path.rstrip("/"))
             setattr(own, name, f"{base}-{number}{ending}")
     return own
 
 
 def solve_kind(given: Namespace, words: list[str]) -> int:
     """Answers what a kind and its words ask for; the exit status."""
+    if [getattr(given, name, None) for name in ("out", "csv", "grid")].count("-") > 1:
+        stop("- is the standard output, which takes one of picture and tables")
     try:
         program = find_program()
     except NoProgram as why:

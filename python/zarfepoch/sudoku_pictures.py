@@ -4,6 +4,7 @@ from __future__ import annotations
 import functools
 import re
 
+from .fault_words import with_article
 from .picture_base import Cell, CELL, Kind, Names
 from .svg_paper import ACCENT, Board, INK, Paper
 from .terminal_text import on_right, widest
@@ -69,9 +70,9 @@ class Sudoku(Kind):
             return f"row {int(item[1:1 + width]) + 1} column {int(item[1 + width:]) + 1}"
         digit = self.mark_of(int(item[-width:]))
         if kind in "xy":
-            return f"a {digit} on the diagonal from the {'left' if kind == 'x' else 'right'} above"
+            return f"{with_article(digit)} on the diagonal from the {'left' if kind == 'x' else 'right'} above"
         house, number = {"r": "row", "c": "column", "b": "box" if self.has_boxes() else "region", "h": "window"}[kind], int(item[1:1 + width])
-        return f"a {digit} in {house} {self.region_marks[number] if house == 'region' and number < len(self.region_marks) else number + 1}"
+        return f"{with_article(digit)} in {house} {self.region_marks[number] if house == 'region' and number < len(self.region_marks) else number + 1}"
 
     def mark_of(self, digit: int) -> str:
         """A digit as it is written here."""

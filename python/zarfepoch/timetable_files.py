@@ -14,7 +14,7 @@ from dataclasses import dataclass, field
 from typing import Optional
 
 from .cover_files import shown
-from .name_texts import as_seen, want_one_spelling
+from .name_texts import as_seen, hint_alike, want_one_spelling
 from .puzzle_texts import read_text, refuse
 from .weeks import bare, day_of, Periods, want_joined, WEEKDAYS
 
@@ -303,6 +303,15 @@ def want_one_way(path: str, lessons: list[Lesson]) -> None:
         want_one_spelling(path, what, found, spelled.get(what, lambda name: as_seen(name).casefold()))
 
 
+def hint_names(path: str, lessons: list[Lesson]) -> None:
+    """Tells of names that may be one: of people and rooms, of lessons of one class, and of words that keep lessons apart."""
+    for what in ("teacher", "class", "room"):
+        hint_alike(path, what, ((lesson.line, name) for lesson in lessons for role, names in roles_of(lesson) if role == what for name in names))
+    for classes in dict.fromkeys(tuple(lesson.classes) for lesson in lessons):
+        hint_alike(path, "lesson", ((lesson.line, lesson.title) for lesson in lessons if tuple(lesson.classes) == classes))
+    hint_alike(path, "word in apart", ((lesson.line, word) for lesson in lessons for word in lesson.apart))
+
+
 def want_one_week(path: str, lessons: list[Lesson]) -> None:
     """Refuses a day of the week that is written in two ways, as in Mon1 and Monday1; MoN1 may be an afternoon."""
     seen: dict[str, tuple[str, int]] = {}
@@ -361,3 +370,4 @@ class Table:
         want_roles(self.path, lessons, {line: row.get("rooms", "") for line, row in self.rows})
         want_one_way(self.path, lessons)
         want_one_week(self.path, lessons)
+        hint_names(self.path, lessons)

@@ -7,7 +7,7 @@ import io
 import itertools
 import re
 import unicodedata
-from collections.abc import Callable, Iterator, Sequence
+from collections.abc import Callable, Iterable, Iterator, Sequence
 
 from .cover_files import Option, Problem
 from .full_names import full_names
@@ -228,12 +228,20 @@ class Timetable(Kind):
 
     def table(self) -> str:
         """The plan as CSV: a row for each time that a lesson is given, of a class those of a day together."""
+        head = ["lesson", "teacher", "class", "rooms", "periods", "length"]
+        return self.as_csv([head, *(row for _, row in sorted(map(self.row_of, self.given()), key=lambda pair: pair[0]))])
+
+    def as_csv(self, rows: Iterable[Sequence[str]]) -> str:
+        """Rows as CSV, with columns parted as those of the table of lessons are."""
         separator = next((comment.partition(": ")[2] for comment in self.comments if re.match(r"\|\s*separator: [,;]$", comment)), ",")
         written = io.StringIO()
-        rows = csv.writer(written, delimiter=separator, lineterminator="\n")
-        rows.writerow(["lesson", "teacher", "class", "rooms", "periods", "length"])
-        rows.writerows(row for _, row in sorted(map(self.row_of, self.given()), key=lambda pair: pair[0]))
+        csv.writer(written, delimiter=separator, lineterminator="\n").writerows(rows)
         return written.getvalue()
+
+    def grid(self, wanted: Sequence[str]) -> str:
+        """Plans as CSV that people read: of each of these a block with a row for each number of a period and a column for each day."""
+        blocks = ([[" ".join(filter(None, cell)) for cell in row] for row in self.plan(who)] for who in wanted)
+        return "\n".join(map(self.as_csv, blocks))
 
     def row_of(self, given: Given) -> tuple[tuple[list[tuple[int, int, str]], int], list[str]]:
         """A lesson as a row, and what sorts it."""
@@ -267,20 +275,24 @@ class Timetable(Kind):
             self.caption(paper)
             return
         rows = [self.plan(who) for who in wanted]
-        fills, wide = self.fills(rows), max(map(Plan.column_width, rows))
-        plans = [Plan(some, wide) for some in rows]
-        x = y = high = 0.0
-        for plan in plans:
-            if x and x + plan.wide > WIDEST - 2 * MARGIN:
-                x, y, high = 0.0, y + high + GAP, 0.0
-            plan.draw(paper, x, y, fills.__getitem__)
-            x, high = x + plan.wide + GAP, max(high, plan.high)
+        draw_plans(paper, rows, self.fills(rows))
         self.caption(paper)
 
 
 def composed(name: str) -> str:
     """A name in which a letter with a mark is one character, wherever there is one for both."""
     return unicodedata.normalize("NFC", name)
+
+
+def draw_plans(paper: Paper, plans: list[Rows], fills: dict[str, str]) -> None:
+    """Draws plans side by side, as far as a sheet is wide, each lesson in its colour."""
+    wide = max(map(Plan.column_width, plans))
+    x = y = high = 0.0
+    for plan in (Plan(rows, wide) for rows in plans):
+        if x and x + plan.wide > WIDEST - 2 * MARGIN:
+            x, y, high = 0.0, y + high + GAP, 0.0
+        plan.draw(paper, x, y, fills.__getitem__)
+        x, high = x + plan.wide + GAP, max(high, plan.high)
 
 
 class Plan:

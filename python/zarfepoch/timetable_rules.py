@@ -11,6 +11,7 @@ from dataclasses import dataclass, replace, field
 from typing import Optional
 
 from .cover_files import shown
+from .name_texts import loose
 from .puzzle_texts import refuse
 from .timetable_files import Lesson, number_in, read_table, Table
 from .weeks import day_and_number, day_of, in_order, told_periods
@@ -18,7 +19,7 @@ from .weeks import day_and_number, day_of, in_order, told_periods
 COLUMNS, NEEDED = ("who", "periods", "away", "a_day", "holes", "note"), ("who",)
 ALIASES = {"name": "who", "period": "periods", "absent": "away", "aday": "a_day", "perday": "a_day", "hole": "holes", "gaps": "holes", "notes": "note"}
 GROUPS = {"teacher": "teachers", "class": "classes", "room": "rooms"}
-WORDS = {"all", "lessons", *GROUPS.values()}
+WORDS = ("all", "lessons", *GROUPS.values())
 
 
 @dataclass
@@ -91,7 +92,7 @@ def roles_in(lessons: list[Lesson]) -> dict[str, str]:
 
 def want_meant(path: str, row: Row, roles: dict[str, str], seen: dict[str, int]) -> None:
     """Refuses a row that can't be meant."""
-    near = next((name for name in roles if name.casefold() == row.who.casefold()), None)
+    near = next((name for name in [*roles, *WORDS] if loose(name) & loose(row.who)), None)
     if row.who not in roles and row.who not in WORDS:
         refuse(path, row.line, f"no lesson has a teacher, a class or a room '{shown(row.who.encode())}'" + (f"; there is {near}" if near else ""))
     if row.who in roles and row.who in WORDS:

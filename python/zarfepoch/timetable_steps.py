@@ -11,7 +11,7 @@ from .always_busy import Shortage, always_busy
 from .fault_words import plural
 from .puzzle_texts import no_cover, refuse
 from .timetable_files import Lesson, Together
-from .timetable_rules import rule_words, School
+from .timetable_rules import Rule, rule_words, School
 from .weeks import day_and_number, day_of, in_order, in_week, told_periods
 
 
@@ -142,18 +142,24 @@ def hours_of(school: School, lesson: Lesson) -> list[Hour]:
     return hours + [Hour(lesson, str(number), steps) for number in range(len(lesson.fixed) + 1, lesson.times + 1)]
 
 
+def room_on_days(hour: Hour) -> dict[str, int]:
+    """How many times a lesson may be given on each day, if nothing else is."""
+    days: dict[str, int] = {}
+    left = set(hour.periods())
+    for step in sorted(hour.steps, key=lambda step: day_and_number(step.run[0]) or ("", 0)):
+        day = day_of(step.run[0])
+        if left.issuperset(step.run) and days.get(day, 0) < (hour.lesson.a_day or 99):
+            left.difference_update(step.run)
+            days[day] = days.get(day, 0) + 1
+    return days
+
+
 def want_room_in_week(school: School, hours: list[Hour]) -> None:
     """Ends the script where the periods of a lesson have too little room for all its times."""
     lesson, free = hours[0].lesson, [hour for hour in hours if not hour.is_fixed]
     if not free:
         return
-    days: dict[str, int] = {}
-    left = set(free[0].periods())
-    for step in sorted(free[0].steps, key=lambda step: day_and_number(step.run[0]) or ("", 0)):
-        day = day_of(step.run[0])
-        if left.issuperset(step.run) and days.get(day, 0) < (lesson.a_day or 99):
-            left.difference_update(step.run)
-            days[day] = days.get(day, 0) + 1
+    days = room_on_days(free[0])
     if sum(days.values()) < len(free) and (lesson.length > 1 or lesson.a_day):
         a_day = f", at most {lesson.a_day} on a day" if lesson.a_day else ""
         no_timetable(school, [lesson], f"{lesson.title} is given {plural(lesson.times, 'time')}{a_day}, each in {plural(lesson.length, 'period')} "
@@ -298,12 +304,45 @@ def want_days_enough(school: School, who: str, hours: list[Hour]) -> None:
                      f"day (line {rule.line} of the rules) on {plural(len(days), 'day')}, so room for {room}")
 
 
+def needed_by_days(hours: list[Hour]) -> dict[str, list[Hour]]:
+    """For each day the times that have to be on it, whatever the timetable: those for which the other days have no room."""
+    alike: dict[tuple[int, frozenset[tuple[str, ...]]], list[Hour]] = {}
+    for hour in hours:
+        alike.setdefault((id(hour.lesson), frozenset(step.run for step in hour.steps)), []).append(hour)
+    found: dict[str, list[Hour]] = {}
+    for some in alike.values():
+        room = room_on_days(some[0])
+        for day, own in room.items():
+            found.setdefault(day, []).extend(some[:max(0, len(some) - sum(room.values()) + own)])
+    return found
+
+
+def room_words(rule: Optional[Rule], seats: int, places: set[str]) -> str:
+    """How little room a day has for so many periods of somebody's lessons; nothing where it has enough."""
+    if seats > len(places):
+        return f"only {len(places)} there: {told_periods(places)}"
+    return f"at most {rule.a_day} (line {rule.line} of the rules)" if rule and rule.a_day and seats > rule.a_day else ""
+
+
+def want_each_day(school: School, who: str, hours: list[Hour]) -> None:
+    """Ends the script where somebody has a day on which more lessons have to be than it has periods."""
+    for day, needed in needed_by_days(hours).items():
+        places = {period for hour in needed for step in hour.steps if day_of(step.run[0]) == day for period in step.run}
+        seats = len(seats_of(needed))
+        room = room_words(school.rules.get(who), seats, places)
+        if room:
+            no_timetable(school, [hour.lesson for hour in needed], f"{who} has {seats} periods of lessons that have to be on {day} "
+                         f"({named_some(needed)}), since their other days are too few, and {room}{limits_of(school, needed)}")
+
+
 def busy_of(school: School, who: str, hours: list[Hour]) -> set[str]:
     """The periods in which somebody is always busy; where there are too few, the script ends."""
     want_days_enough(school, who, hours)
     seats = seats_of(hours)
     try:
-        return always_busy([hour.periods() for hour in seats])
+        busy = always_busy([hour.periods() for hour in seats])
+        want_each_day(school, who, hours)
+        return busy
     except Shortage as short:
         wanting = [seats[k] for k in short.wanting]
         no_timetable(school, [hour.lesson for hour in wanting], f"{who} has {len(wanting)} periods of lessons ({named_some(wanting)}), and of the "

@@ -4,8 +4,10 @@
 
 First it asks the program for a reason (solve_cli why FILE): an item in no option; too little room, as 25 lessons for the 24 periods
 of their teacher; or weights that each option adds up to 0 modulo some number, and all items together don't, as the colours of a
-chessboard. That takes no search. It adds the reason up again by itself, and --svg draws it: the board in the colours of the weights,
-where the items are cells of one, else the items beside what they weigh, need or have room for. Without a reason there is no picture.
+chessboard. Where it has none, this counts items that are alike: nine people who meet in threes on five evenings make 45 meetings of two,
+and there are 36 pairs, each of which may meet once. That takes no search. It adds the reason up again by itself, and --svg draws it: the
+board in the colours of the weights, where the items are cells of one, else the items beside what they weigh, need or have room for. Without
+a reason there is no picture.
 
 Where the program finds no reason, or with --search, and answers `none`, this takes primary items away as long as it still does: half of
 those that are left at a time, then one by one. What is left can't be covered, and would be without any one of its items. (Where a
@@ -26,8 +28,9 @@ from typing import Callable, Optional
 
 from .command_words import parser_of
 from .cover_files import complain, Option, Problem, Unreadable, put, read_bytes, read_problem, refusal, run, shown, stop
-from .cover_reason import Named, Reason, found_reason
+from .cover_reason import Named, Reason
 from .draw_reason import reason_svg
+from .even_room import any_reason
 from .fault_words import listed, plural, quoted
 from .full_names import named_numbers
 from .picture_kinds import Matching, picture_of, Plain, Triples
@@ -204,7 +207,7 @@ def main() -> int:
     if given.program is None or not is_program(given.program):
         stop(missing_program(given.program))
     try:
-        reason = None if given.search else found_reason(given.program, text)
+        reason = None if given.search else any_reason(given.program, text, problem)
     except OSError as why:
         stop(f"the program can't be run: {why}")
     if reason:
