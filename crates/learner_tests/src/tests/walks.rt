@@ -49,6 +49,14 @@ fn end_of(walk: &mut QuestionWalk<'_>, looks: u64) -> Result<WalkEnd, AllocError
     Ok(WalkEnd::Stopped)
 }
 
+/// Whether a walk has found this first cover, or that there is none.
+fn has_found(walk: &QuestionWalk<'_>, first: Option<&[u16]>) -> bool {
+    match first {
+        Some(options) => walk.end() == WalkEnd::Found && walk.chosen() == options,
+        None => walk.end() == WalkEnd::NoCover,
+    }
+}
+
 /// Whether a walk has found the first cover, or that there is none, as a search does.
 fn is_as_searched(
     alloc: Global,
@@ -57,45 +65,51 @@ fn is_as_searched(
 ) -> Result<bool, AllocError> {
     let mut searcher = Searcher::new(alloc, problem)?;
     Ok(match searcher.search(&[], u64::MAX) {
-        Outcome::Cover => walk.end() == WalkEnd::Found && searcher.found() == walk.chosen(),
-        Outcome::Barren => walk.end() == WalkEnd::NoCover,
+        Outcome::Cover => has_found(walk, Some(searcher.found())),
+        Outcome::Barren => has_found(walk, None),
         Outcome::Spent => false,
     })
+}
+
+/// Whether a walk comes to this.
+fn finds(alloc: Global, problem: &Problem, first: Option<&[u16]>) -> Result<bool, AllocError> {
+    let mut walk = QuestionWalk::new(alloc, problem, Settings::new())?;
+    end_of(&mut walk, u64::MAX)?;
+    Ok(has_found(&walk, first))
 }
 
 #[test]
 fn first_covers_of_small_problems(rt: HostRuntime) -> Result<(), Fail> {
     for (text, first) in FIRST.iter() {
         let problem = problem_of(&rt, rt.alloc(), text);
-        let mut walk = QuestionWalk::new(rt.alloc(), &problem, Settings::new())?;
-        let end = end_of(&mut walk, u64::MAX)?;
-        match first {
-            Some(options) => {
-                assert!(rt;
-                    end == WalkEnd::Found && walk.chosen() == *options,
-                    "{text}"
-                );
-            }
-            None => assert!(rt; end == WalkEnd::NoCover, "{text}"),
-        }
+        assert!(rt; finds(rt.alloc(), &problem, *first)?, "{text}");
     }
     Ok(())
 }
 
-/// Walks over pairs of numbers, which are stopped at each look at first, and so go on later from where they stood.
+/// Whether a walk that is stopped at each look at first, and so goes on later from where it stood, comes to what a search comes to.
+fn finds_in_pieces(alloc: Global, problem: &Problem) -> Result<bool, AllocError> {
+    let mut walk = QuestionWalk::new(alloc, problem, Settings::new())?;
+    end_of(&mut walk, 0)?;
+    is_as_searched(alloc, problem, &walk)
+}
+
+/// Walks over pairs of numbers.
 #[test]
 fn first_covers_by_walks_that_are_stopped(rt: HostRuntime) -> Result<(), Fail> {
     for size in 3..=8u8 {
         let text = langford(rt.alloc(), size)?;
         let problem = problem_of(&rt, rt.alloc(), text.as_str());
-        let mut walk = QuestionWalk::new(rt.alloc(), &problem, Settings::new())?;
-        end_of(&mut walk, 0)?;
-        assert!(rt; is_as_searched(rt.alloc(), &problem, &walk)?, "{size}");
+        assert!(rt; finds_in_pieces(rt.alloc(), &problem)?, "{size}");
     }
+    Ok(())
+}
+
+#[test]
+fn walks_that_are_stopped_find_none(rt: HostRuntime) -> Result<(), Fail> {
     let text = board(rt.alloc(), 6)?;
     let problem = problem_of(&rt, rt.alloc(), text.as_str());
-    let mut walk = QuestionWalk::new(rt.alloc(), &problem, Settings::new())?;
-    assert!(rt; end_of(&mut walk, 0)? == WalkEnd::NoCover);
+    assert!(rt; finds_in_pieces(rt.alloc(), &problem)?);
     Ok(())
 }
 
@@ -103,19 +117,33 @@ fn first_covers_by_walks_that_are_stopped(rt: HostRuntime) -> Result<(), Fail> {
 const LESSONS: &str =
     "art bio chess | m t w mr tr\nart m\nart t\nart w\nbio m mr\nbio t tr\nchess m mr\nchess t tr\n";
 
-/// A walk that asks about the problem in which the periods are primary finds the first cover of the problem itself.
+/// Whether a walk that asks about the problem in which items are primary that each cover uses comes to what a search of the problem itself
+/// comes to; not where there are none.
+fn finds_by_used_items(alloc: Global, problem: &Problem) -> Result<bool, AllocError> {
+    let Some(made) = with_used_items(alloc, problem)? else {
+        return Ok(false);
+    };
+    let mut walk = QuestionWalk::asking(alloc, problem, &made.problem, Settings::new())?;
+    end_of(&mut walk, u64::MAX)?;
+    is_as_searched(alloc, problem, &walk)
+}
+
 #[test]
 fn first_covers_by_used_items(rt: HostRuntime) -> Result<(), Fail> {
     let problem = problem_of(&rt, rt.alloc(), LESSONS);
-    let made = with_used_items(rt.alloc(), &problem)?;
-    let Some(made) = made else {
-        return Err(Fail::new("no item is always used"));
-    };
-    assert!(rt; made.problem.primary() > problem.primary());
-    let mut walk = QuestionWalk::asking(rt.alloc(), &problem, &made.problem, Settings::new())?;
-    assert!(rt; end_of(&mut walk, u64::MAX)? == WalkEnd::Found);
-    assert!(rt; is_as_searched(rt.alloc(), &problem, &walk)?);
+    assert!(rt; finds_by_used_items(rt.alloc(), &problem)?);
     Ok(())
+}
+
+/// What a walk comes to that has little room for what is learned.
+fn end_with_little(alloc: Global, problem: &Problem) -> Result<WalkEnd, AllocError> {
+    let little = Settings {
+        memory: 20_000,
+        ..Settings::new()
+    };
+    let mut walk = QuestionWalk::new(alloc, problem, little)?;
+    walk.search(&mut Looks(u64::MAX))?;
+    Ok(walk.end())
 }
 
 /// Where there is too little room for what is learned, a walk comes to nothing.
@@ -123,12 +151,6 @@ fn first_covers_by_used_items(rt: HostRuntime) -> Result<(), Fail> {
 fn walks_without_room(rt: HostRuntime) -> Result<(), Fail> {
     let text = langford(rt.alloc(), 13)?;
     let problem = problem_of(&rt, rt.alloc(), text.as_str());
-    let little = Settings {
-        memory: 20_000,
-        ..Settings::new()
-    };
-    let mut walk = QuestionWalk::new(rt.alloc(), &problem, little)?;
-    let end = walk.search(&mut Looks(u64::MAX))?;
-    assert!(rt; end == WalkEnd::Stopped && walk.end() == WalkEnd::Stopped);
+    assert!(rt; end_with_little(rt.alloc(), &problem)? == WalkEnd::Stopped);
     Ok(())
 }
