@@ -318,7 +318,7 @@ def with_program(path: str, call: Callable[[], Called]) -> Called:
 def long_search() -> Problem:
     """A problem that nobody sees the end of, by searching, reasoning or learning: a cover may be among so few triples, but nobody finds it soon."""
     draw = random.Random(1)
-    return Problem(range(180), options=[draw.sample(range(180), 3) for _ in range(450)])
+    return Problem(range(300), options=[draw.sample(range(300), 3) for _ in range(900)])
 
 
 def files(folder: str) -> None:
