@@ -222,7 +222,7 @@ def many_covers() -> None:
     expect("nine queens", len({frozenset(cover) for cover in Problem.parse(queens.stdout).covers()}) == 352)
     hard = long_search().covers(seconds=3)
     raised(zarfepoch.TimeIsUp, lambda: next(hard))
-    expect("no program goes on", processes_of(os.getpgid(0), os.path.basename(os.environ["ZARFEPOCH"])) == 0)
+    expect("no program goes on", programs_begun() == 0)
 
 
 def errors() -> None:
@@ -415,14 +415,23 @@ def killed(folder: str) -> None:
                 os.killpg(run.pid, signal.SIGKILL)
 
 
-def processes_of(group: int, called: str = "") -> int:
-    """How many processes of a group there are, or those with a name."""
-    count = 0
+def processes() -> Iterator[tuple[str, list[str]]]:
+    """Of each process its name, and what the system says of it behind that: its state, its parent, its group and more."""
     for number in filter(str.isdecimal, os.listdir("/proc")):
         with contextlib.suppress(OSError), open(f"/proc/{number}/stat", encoding="ascii", errors="replace") as file:
             name, _, rest = file.read().partition("(")[2].rpartition(")")
-            count += rest.split()[2] == str(group) and called in (name, "")
-    return count
+            yield name, rest.split()
+
+
+def processes_of(group: int) -> int:
+    """How many processes of a group there are."""
+    return sum(rest[2] == str(group) for _, rest in processes())
+
+
+def programs_begun() -> int:
+    """How many of the programs go on that this process began; other trials run some beside it."""
+    called = os.path.basename(os.environ["ZARFEPOCH"])
+    return sum(name == called and rest[1] == str(os.getpid()) for name, rest in processes())
 
 
 def old_python() -> None:
