@@ -8,7 +8,7 @@ ghost use Rattle.used_items.specs.Orders.{IsPromoted};
 use crate::text::{clique_lines_of, lines_of, promoted_lines_of};
 use clash_cliques::{RoomByCliques, find_room_by_cliques};
 use cover_problem::Problem;
-use cover_reasons::{Reason, ReasonWatch, find_reason_until};
+use cover_reasons::{Reason, ReasonWatch, find_reason_until, find_short_reason_until};
 use std::alloc::{AllocError, Global};
 use used_items::{WithUsedItems, with_used_items};
 
@@ -35,7 +35,7 @@ fn cause_by_use<W: ReasonWatch>(
     ensures cause { IfOk result (λ found. IfSome found (IsCause _problem.now)) }
     ensures barren { IfOk result (λ found. IfSome found (λ cause. IsBarren _problem.now [])) }
 {
-    match find_reason_until(alloc, &made.problem, watch)? {
+    match find_short_reason_until(alloc, &made.problem, watch)? {
         Some(reason) => Ok(Some(Cause::ByUsedItems(made, reason))),
         None => Ok(None),
     }
