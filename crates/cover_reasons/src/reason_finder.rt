@@ -45,8 +45,7 @@ pub fn find_reason_until<W: ReasonWatch>(
     }
 }
 
-/// The same without the last kind, which takes longest: for problems made of others that were looked at in that way already, and that
-/// have the same linear relaxation but for what each of its solutions does anyhow.
+/// The same without the last kind, which takes longest.
 pub fn find_short_reason_until<W: ReasonWatch>(
     alloc: Global,
     problem: &Problem,
@@ -69,8 +68,11 @@ pub fn find_short_reason_until<W: ReasonWatch>(
     }
 }
 
-/// Too little room by any multipliers, looked for until the watch ends that.
-fn find_fractional_reason_until<W: ReasonWatch>(
+/// The last kind alone, looked for until the watch ends that: too little room by any multipliers.
+///
+/// In a problem made from another one by making items primary that each cover uses it finds what it finds in that: the room that shows that each cover
+/// uses them shows it of each solution of the linear relaxation, too.
+pub fn find_fractional_reason_until<W: ReasonWatch>(
     alloc: Global,
     problem: &Problem,
     watch: &mut W,
