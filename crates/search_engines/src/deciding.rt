@@ -157,7 +157,10 @@ pub fn answer_until<V: Watch, C: Clock>(
     if let Some(answer) = searched(alloc, &tables, &mut looking, &mut Untraced)? {
         return Ok(Some(answer));
     }
-    if looking.excludes(problem) || is_excluded(alloc, problem, watch) {
+    if looking.excludes(problem) {
+        return Ok(Some(Answer::NoCover));
+    }
+    if is_excluded(alloc, problem, watch) {
         return Ok(Some(Answer::NoCover));
     }
     // (from the start once more: what the short search did is a tenth of a second, little beside what may follow)
