@@ -4,7 +4,7 @@
     python3 bench/fractional.py [--seeds N] [--seconds N] [--kind KIND ..] [--write FOLDER]
 
 The kinds: `courts`, teams of which each trains on two of as many courts, or in a hall; `corners`, boards of three rows by pieces like an L;
-`missed`, three to eight classes with a lesson in each period, some of whose teachers are missed in a few periods; `changed`, quasigroups of order
+`missed`, three to eight classes with a lesson in each period but one, whose teachers are missed in one period after the other until there is no solution; `changed`, quasigroups of order
 20 or 30 with some cells free, in which one or two of the given numbers are wrong. None has a cover.
 
 N instances are drawn of each kind (default 3). A row has the items and options; the processor seconds of `why`, reading included, and of HiGHS, which
@@ -33,8 +33,8 @@ HERE = os.path.dirname(os.path.abspath(__file__))
 sys.path.insert(0, os.path.join(HERE, "..", "scripts"))
 from built import SOLVE_CLI, TOP, number_from_one, parser_of, want_program  # noqa: E402
 
-# classes, teachers and periods of `missed`, the part of the other periods in which a teacher can be had, too, and how many are missed
-SCHOOLS = ((3, 4, 25, 0.3, 4), (5, 7, 30, 0.2, 6), (8, 10, 30, 0.1, 8))
+# classes, teachers and periods of `missed`, and the part of the other periods in which a teacher can be had, too
+SCHOOLS = ((3, 4, 12, 0.2), (5, 7, 20, 0.15), (8, 10, 24, 0.1))
 # the order of a quasigroup, how many cells of each row are free, and how many numbers are wrong
 SQUARES = ((20, 6, 1), (30, 8, 2), (30, 10, 1))
 MOVES = 20
@@ -62,20 +62,31 @@ def corners(path: str, draw: random.Random, seed: int) -> None:
 
 
 def missed(path: str, draw: random.Random, seed: int) -> None:
-    classes, teachers, periods, part, misses = SCHOOLS[(seed - 1) % len(SCHOOLS)]
+    classes, teachers, periods, part = SCHOOLS[(seed - 1) % len(SCHOOLS)]
     lessons: list[tuple[int, int]] = []
     had: list[set[int]] = [set() for _ in range(teachers)]
     for period in range(periods):
+        # (one class is free in each of the first periods)
         for who, teacher in enumerate(draw.sample(range(teachers), classes)):
-            lessons.append((who, teacher))
-            had[teacher].add(period)
+            if who != period:
+                lessons.append((who, teacher))
+                had[teacher].add(period)
     for one in had:
         one.update(period for period in range(periods) if draw.random() < part)
     draw.shuffle(lessons)
-    for _ in range(misses):
-        teacher = draw.randrange(teachers)
-        if len(had[teacher]) > sum(by == teacher for _, by in lessons):
-            had[teacher].remove(draw.choice(sorted(had[teacher])))
+    write_plan(path, lessons, had)
+    while highs(path, 60) == "-":
+        spare = [number for number, one in enumerate(had) if len(one) > sum(by == number for _, by in lessons)]
+        if not spare:
+            missed(path, draw, seed)
+            return
+        one = had[draw.choice(spare)]
+        one.remove(draw.choice(sorted(one)))
+        write_plan(path, lessons, had)
+
+
+def write_plan(path: str, lessons: list[tuple[int, int]], had: list[set[int]]) -> None:
+    """Lessons of a class and a teacher, in any period in which the teacher can be had."""
     write(path, [f"l{number}" for number in range(len(lessons))],
           [[f"l{number}", f"c{who}-{period}", f"t{teacher}-{period}"]
            for number, (who, teacher) in enumerate(lessons) for period in sorted(had[teacher])])
