@@ -6,9 +6,10 @@
 //! Dantzig's ("Maximization of a linear function of variables subject to linear inequalities", 1947), in its first phase, with floating-point
 //! numbers: nothing here is exact, and whoever takes the multipliers adds them up.
 //!
-//! Tried in C++ and with HiGHS, on 48 timetables, changed quasigroups, boards and courts: each of the 36 relaxations without a solution gave
-//! multipliers that hold once they are rounded, the largest, of 900 items, after 4,900 pivots. Numbers of 64 bits in fixed point weren't tried:
-//! a proof that none overflows would cost more than it is worth, since nothing has to be believed.
+//! Tried in C++ beside HiGHS, on 45 timetables, changed quasigroups, boards and courts and on 400 random problems: each of the 43 and the 157
+//! relaxations without a solution gave multipliers that hold once they are rounded, and no other one did; the largest, of 900 items, after some
+//! 5,000 pivots. Numbers of 64 bits in fixed point weren't tried: a proof that none overflows would cost more than it is worth, since nothing has to
+//! be believed.
 #![tactic(auto)]
 
 mod entering;

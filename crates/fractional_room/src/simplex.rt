@@ -6,7 +6,7 @@
 //!
 //! All right sides are 1, so nearly every pivot would leave what is missing as it is, and the method might turn in a circle. So each is a
 //! little more, by another amount (Charnes, "Optimality and degeneracy in linear programming", 1952). Amounts up to 0.001 and up to 0.000001 took
-//! as many pivots; larger ones come near to what is missing at the end, 0.4 in one of 36 problems. Bland's rule takes no part: rounding could
+//! as many pivots; larger ones come near to what is missing at the end, 0.4 in one of 43 problems. Bland's rule takes no part: rounding could
 //! break its proof that the method ends, so whoever calls `pivot` counts.
 
 ghost use Rattle.std.specs.Prelude.{◌≡◌};
