@@ -9,7 +9,7 @@ ghost use Rattle.cover_problem.specs.Search.{first};
 ghost use Rattle.dlx_reader.specs.Writing.{IsWritable};
 ghost use Rattle.search_engines.specs.Alone.{answer_by};
 
-use crate::looking::{FIRST, LATER, LookingWatch};
+use crate::looking::{EARLY, LATE, LookingWatch};
 use crate::stopwatch::Stopwatch;
 use brancher::{ROOM, Tables, Watch};
 use cover_problem::{Answer, Problem, in_order};
@@ -126,7 +126,7 @@ fn searched_at_length<V: Watch, C: Clock>(
     ensures order { IfOk result (λ found. IfSome found (IsWritable tables.now)) }
 {
     let problem = tables.problem();
-    let mut looking = LookingWatch::new(clock, alloc, problem, watch, LATER);
+    let mut looking = LookingWatch::new(clock, alloc, problem, watch, LATE);
     if let Some(answer) = searched(alloc, tables, &mut looking, &mut Untraced)? {
         return Ok(Some(answer));
     }
@@ -153,7 +153,7 @@ pub fn answer_until<V: Watch, C: Clock>(
     let tables = Tables::build(alloc, problem)?;
     let stopwatch = Stopwatch::new(clock);
     let mut short = ShortWatch { clock, stopwatch };
-    let mut looking = LookingWatch::new(clock, alloc, problem, &mut short, FIRST);
+    let mut looking = LookingWatch::new(clock, alloc, problem, &mut short, EARLY);
     if let Some(answer) = searched(alloc, &tables, &mut looking, &mut Untraced)? {
         return Ok(Some(answer));
     }

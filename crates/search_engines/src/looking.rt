@@ -11,23 +11,27 @@ use crate::stopwatch::Stopwatch;
 use brancher::Watch;
 use cover_problem::Problem;
 use cover_reasons::{
-    Reason, ReasonWatch, find_fractional_reason_until, find_reason_until, holds_of,
+    Reason, ReasonWatch, find_fractional_reason_until, find_reason_until, find_short_reason_until,
+    holds_of,
 };
-use std::alloc::Global;
+use std::alloc::{AllocError, Global};
 use std::time::{Clock, Duration};
 
 /// How many milliseconds a search has lasted when a reason is looked for first: any one.
-pub(crate) const FIRST: u64 = 10;
+pub(crate) const EARLY: u64 = 10;
 
 /// The same for the first time that one by multipliers alone is looked for, after those of other kinds were.
-pub(crate) const LATER: u64 = 640;
+pub(crate) const LATE: u64 = 640;
 
 /// Which part of a search's time goes by at most while a reason is looked for.
 const PART: u64 = 64;
 
-/// How many options a problem has at most of which a reason is looked for at `FIRST`: of one with more, the first look at all options takes longer than
+/// How many options a problem has at most of which a reason is looked for at `EARLY`: of one with more, the first look at all options takes longer than
 /// a thousandth of a second.
 const MOST_OPTIONS: usize = 2_000;
+
+/// How many items it has at most if multipliers are looked for then, too: with 1,000 their matrix takes 8 MB.
+const MOST_ITEMS: usize = 300;
 
 /// A watch that ends the search for a reason after so many milliseconds.
 #[derive(Drop)]
@@ -44,6 +48,21 @@ impl<'a, C: Clock> ReasonWatch for BriefWatch<'a, C> {
             None => true,
         }
     }
+}
+
+/// A reason of a problem that is small enough, if it is found before the watch ends that. The only error is out of memory.
+fn find_early_reason<W: ReasonWatch>(
+    alloc: Global,
+    problem: &Problem,
+    watch: &mut W,
+) -> Result<Option<Reason>, AllocError> {
+    if problem.options() > MOST_OPTIONS {
+        return Ok(None);
+    }
+    if problem.items() > MOST_ITEMS {
+        return find_short_reason_until(alloc, problem, watch);
+    }
+    find_reason_until(alloc, problem, watch)
 }
 
 /// A watch that stops a search where another one does, or once it has found a reason. Where the clock can't be read it looks for none.
@@ -103,18 +122,16 @@ impl<'a, 'b, V: Watch, C: Clock> LookingWatch<'a, 'b, V, C> {
     /// Looks for a reason, for a part of the time that the search has lasted. Returns whether there is one.
     fn finds_reason_within(&mut self) -> bool {
         let now = self.next;
-        self.next = now.max(LATER / 4).saturating_mul(4);
+        self.next = now.max(LATE / 4).saturating_mul(4);
         let mut brief = BriefWatch {
             clock: self.clock,
             stopwatch: Stopwatch::new(self.clock),
             most: (now / PART).max(1),
         };
-        let found = if now >= LATER {
+        let found = if now >= LATE {
             find_fractional_reason_until(self.alloc, self.problem, &mut brief)
-        } else if self.problem.options() <= MOST_OPTIONS {
-            find_reason_until(self.alloc, self.problem, &mut brief)
         } else {
-            Ok(None)
+            find_early_reason(self.alloc, self.problem, &mut brief)
         };
         // (where memory runs out there is none, and that is no error: a search may need less)
         self.reason = found.unwrap_or(None);
