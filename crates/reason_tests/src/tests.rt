@@ -1,7 +1,9 @@
 //! Reasons that are found and reasons that are given by hand.
 //!
 //! Of the bugs of `cover_reasons` that are kept outside the gate, `a_watch_ends_the_search_for_a_reason` finds
-//! `weights_are_found_to_the_end` and `kinds_are_looked_at_to_the_end`.
+//! `weights_are_found_to_the_end` and `kinds_are_looked_at_to_the_end`, and `a_watch_ends_the_pivots` finds `pivots_are_made_to_the_end`.
+//!
+//! Of the bugs of `fractional_room` that are kept outside the gate, `small_reasons` finds `a_need_is_taken_for_room`.
 
 mod texts;
 
