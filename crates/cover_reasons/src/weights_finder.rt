@@ -1,7 +1,6 @@
 //! The search for weights that exclude an exact cover, modulo each of some small numbers.
 //!
-//! Fractions aren't tried as weights: in 17 timetables and pigeonholes without a cover they gave no reason where kinds of items
-//! (`room_finder`) gave none, and whole numbers modulo m can be added up by hand.
+//! Fractions come later (`fractional_finder`): it takes longer to find them, and whole numbers modulo m can be added up by hand.
 
 ghost use Rattle.std.specs.Prelude.{◌≡◌, ◌≤◌, true, IfOk, IfSome};
 ghost use Rattle.cover_reasons.specs.Weights.{excludes};
