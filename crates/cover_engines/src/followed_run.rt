@@ -35,7 +35,7 @@ struct State<'a, E: Sink> {
     share: u64,
     jobs: u64,
     /// A site has ended with which the run ends: no line follows.
-    is_over: bool,
+    is_ended: bool,
     /// Why there is no answer, if the run ends without one.
     reasons: Reasons,
 }
@@ -56,7 +56,7 @@ impl<'a, E: Sink, R: Wait + Clock> FollowedRun<'a, E, R> {
             visits: 0,
             share: 0,
             jobs: 0,
-            is_over: false,
+            is_ended: false,
             reasons: Reasons::new(),
         };
         Ok(FollowedRun {
@@ -93,7 +93,7 @@ impl<'a, E: Sink> State<'a, E> {
 
     /// How many seconds are over, where a line is due.
     fn due<C: Clock>(&mut self, clock: &C) -> Option<u64> {
-        if self.is_over {
+        if self.is_ended {
             return None;
         }
         self.timer.due(clock, self.log.style())
@@ -101,7 +101,7 @@ impl<'a, E: Sink> State<'a, E> {
 
     /// Ends the last line, so that the answer is on one of its own. No line follows.
     fn end(&mut self) {
-        self.is_over = true;
+        self.is_ended = true;
         self.log.end();
     }
 

@@ -23,7 +23,7 @@ struct Heard<'a, E: Sink> {
     sink: &'a mut E,
     reasons: Reasons,
     /// Why there is no answer, once the run is over without one.
-    told: Option<&'static str>,
+    unanswered: Option<&'static str>,
 }
 
 impl<'a, E: Sink, R: Wait> QuietRun<'a, E, R> {
@@ -32,7 +32,7 @@ impl<'a, E: Sink, R: Wait> QuietRun<'a, E, R> {
         let heard = Heard {
             sink,
             reasons: Reasons::new(),
-            told: None,
+            unanswered: None,
         };
         QuietRun {
             rt,
@@ -43,7 +43,7 @@ impl<'a, E: Sink, R: Wait> QuietRun<'a, E, R> {
 
     /// Why there is no answer, if the run ended without one.
     pub fn reason(&self) -> Option<&'static str> {
-        self.state.lock(self.rt).told
+        self.state.lock(self.rt).unanswered
     }
 }
 
@@ -69,7 +69,7 @@ impl<'a, E: Sink, R: Wait> Gate for QuietRun<'a, E, R> {
     fn finished(&self, is_answered: bool) {
         let mut state = self.state.lock(self.rt);
         if !is_answered {
-            state.told = Some(state.reasons.reason());
+            state.unanswered = Some(state.reasons.reason());
         }
     }
 }

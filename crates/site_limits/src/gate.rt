@@ -18,10 +18,10 @@ pub trait Gate {
 
     /// A worker that searches a prefix of this length has chosen these options, and made so many visits. Called once in 1,024 visits at
     /// most.
-    fn seen(&self, _length: usize, _chosen: &[u16], _visits: u64) {}
+    fn seen(&self, _length: usize, _chosen: &[u16], _made: u64) {}
 
     /// A worker has searched a prefix, with so many visits.
-    fn searched(&self, _finding: &Finding, _visits: u64) {}
+    fn searched(&self, _finding: &Finding, _made: u64) {}
 
     /// A site's book has so many entries, of so many at most.
     fn recorded(&self, _entries: u64, _most: u64) {}
@@ -54,7 +54,7 @@ const MANY: u64 = 2;
 #[derive(Drop)]
 pub struct SearchWatch<'a, G: Gate> {
     /// The site is to end.
-    over: &'a AtomicBool,
+    stop_flag: &'a AtomicBool,
     gate: &'a G,
     /// How long the prefix is that is searched.
     length: usize,
@@ -69,20 +69,20 @@ pub struct SearchWatch<'a, G: Gate> {
     /// How much fuel was left then.
     left: u64,
     /// It was stopped because the site is to end.
-    is_over: bool,
+    is_called_off: bool,
 }
 
 impl<'a, G: Gate> SearchWatch<'a, G> {
-    /// The watch of the search of a prefix of this length, with so much fuel and this quota. It stops it once `over` is raised.
+    /// The watch of the search of a prefix of this length, with so much fuel and this quota. It stops it once `stop_flag` is raised.
     pub fn new(
-        over: &'a AtomicBool,
+        stop_flag: &'a AtomicBool,
         gate: &'a G,
         length: usize,
         fuel: u64,
         quota: Quota,
     ) -> SearchWatch<'a, G> {
         SearchWatch {
-            over,
+            stop_flag,
             gate,
             length,
             fuel,
@@ -90,12 +90,12 @@ impl<'a, G: Gate> SearchWatch<'a, G> {
             many: MANY,
             made: 0,
             left: fuel,
-            is_over: false,
+            is_called_off: false,
         }
     }
 
     /// How many visits a search that keeps states has made.
-    pub fn visits(&self) -> u64 {
+    pub fn made_visits(&self) -> u64 {
         self.made
     }
 
@@ -105,8 +105,8 @@ impl<'a, G: Gate> SearchWatch<'a, G> {
     }
 
     /// Whether it was stopped because the site is to end.
-    pub fn is_over(&self) -> bool {
-        self.is_over
+    pub fn is_called_off(&self) -> bool {
+        self.is_called_off
     }
 
     /// Whether the search may make no more visits. Where it saves many its quota grows.
@@ -130,16 +130,16 @@ impl<'a, G: Gate> Watch for SearchWatch<'a, G> {
     ghost may_stop = { true };
 
     fn look(&mut self, chosen: &[u16], left: u64) -> bool {
-        // (stopped by its quota, not by its site: what it came to so far is posted, so is_over stays as it is)
+        // (stopped by its quota, not by its site: what it came to so far is posted, so is_called_off stays as it is)
         if self.is_at_limit(left) {
             return true;
         }
         // (a search that keeps no states never calls made: all its visits are in the fuel that is gone)
-        let visits = self.made.saturating_add(self.left.saturating_sub(left));
-        self.gate.seen(self.length, chosen, visits);
+        let made = self.made.saturating_add(self.left.saturating_sub(left));
+        self.gate.seen(self.length, chosen, made);
         // (nothing else is read by this flag, and one look more does no harm, so it needs no order)
-        self.is_over = self.over.load(Ordering::Relaxed);
-        self.is_over
+        self.is_called_off = self.stop_flag.load(Ordering::Relaxed);
+        self.is_called_off
     }
 
     #[inline(always)]

@@ -73,25 +73,25 @@ impl<'a, J: Run, C: Core + Drop, N: CellName, L: Link, G: Gate> ActingThread<'a,
     /// Runs the thread to its end.
     fn run<R: Wait + Clock>(&mut self, rt: &R) {
         let shared = self.actor.shared;
-        let mut left = Limits::new(shared.plan.turns);
+        let mut limits = Limits::new(shared.plan.turns);
         self.cause = match &mut self.task {
-            Task::Work(number) => work(rt, &mut self.actor, *number, &mut left),
-            Task::Receive(receiver) => receive(rt, &mut self.actor, receiver, &mut left),
+            Task::Work(number) => work(rt, &mut self.actor, *number, &mut limits),
+            Task::Receive(receiver) => receive(rt, &mut self.actor, receiver, &mut limits),
         };
-        self.turns = left.taken();
+        self.turns = limits.taken();
         if self.task.ends_site(self.cause) {
-            shared.signals.end();
+            shared.signals.stop();
         }
         shared.signals.leave();
     }
 }
 
 /// Counts a turn, and waits a little if memory ran out, so that others may give some back. Returns the cause if the thread ends by it.
-fn noted<R: Wait + Clock>(rt: &R, left: &mut Limits, turn: Turn) -> Option<EndCause> {
+fn noted<R: Wait + Clock>(rt: &R, limits: &mut Limits, turn: Turn) -> Option<EndCause> {
     if turn == Turn::Starved {
         thread::sleep(rt, Duration::from_millis(SHORTAGE));
     }
-    left.note(turn)
+    limits.note(turn)
 }
 
 /// Runs a worker to its end. It begins its turns once a thread of each kind has begun.
@@ -99,11 +99,11 @@ fn work<J: Run, C: Core + Drop, N: CellName, G: Gate, R: Wait + Clock>(
     rt: &R,
     actor: &mut Actor<'_, J, C, N, G>,
     number: u8,
-    left: &mut Limits,
+    limits: &mut Limits,
 ) -> EndCause {
     let shared = actor.shared;
     // (a thread that is only started once the others have ended must not count as begun, or the site would seem manned)
-    if shared.is_over(rt) {
+    if shared.is_to_end(rt) {
         return shared.ending.cause(rt);
     }
     shared.signals.begin_working();
@@ -111,7 +111,7 @@ fn work<J: Run, C: Core + Drop, N: CellName, G: Gate, R: Wait + Clock>(
     let node = shared.cell.site().node;
     match Worker::new(shared.alloc, shared.tables, shared.plan, node, number) {
         Ok(mut worker) => {
-            let cause = take_turns(rt, actor, &mut worker, left);
+            let cause = take_turns(rt, actor, &mut worker, limits);
             // (the others may have left all jobs to this worker, which does none from here on)
             shared.signals.work_together(number);
             cause
@@ -125,15 +125,15 @@ fn take_turns<'a, J: Run, C: Core + Drop, N: CellName, G: Gate, R: Wait + Clock>
     rt: &R,
     actor: &mut Actor<'_, J, C, N, G>,
     worker: &mut Worker<'a, J>,
-    left: &mut Limits,
+    limits: &mut Limits,
 ) -> EndCause {
     // (a range in place of a loop without end, so that the prover sees it end; the limits end it long before)
     for _turn in 0..u64::MAX {
-        if left.is_spent() {
+        if limits.is_spent() {
             break;
         }
         let turn = worker.turn(rt, actor);
-        if let Some(cause) = noted(rt, left, turn) {
+        if let Some(cause) = noted(rt, limits, turn) {
             return cause;
         }
     }
@@ -145,20 +145,20 @@ fn receive<J: Run, C: Core + Drop, N: CellName, L: Link, G: Gate, R: Wait + Cloc
     rt: &R,
     actor: &mut Actor<'_, J, C, N, G>,
     receiver: &mut Receiver<L>,
-    left: &mut Limits,
+    limits: &mut Limits,
 ) -> EndCause {
     let shared = actor.shared;
-    if shared.is_over(rt) {
+    if shared.is_to_end(rt) {
         return shared.ending.cause(rt);
     }
     shared.signals.begin_receiving();
     shared.muster(rt);
     for _turn in 0..u64::MAX {
-        if left.is_spent() {
+        if limits.is_spent() {
             break;
         }
         let turn = receiver.turn(rt, actor);
-        if let Some(cause) = noted(rt, left, turn) {
+        if let Some(cause) = noted(rt, limits, turn) {
             return cause;
         }
     }

@@ -95,7 +95,7 @@ impl<L: Link> Receiver<L> {
         shared: &Shared<'_, J, C, N, G>,
     ) -> Option<EndCause> {
         let is_spent = self.schedule.is_spent(self.now) || self.schedule.has_announced();
-        if is_spent || shared.signals.is_over() {
+        if is_spent || shared.signals.is_stopped() {
             Some(EndCause::Turns)
         } else if shared.ending.is_late(rt) {
             Some(EndCause::Time)
@@ -134,7 +134,7 @@ impl<L: Link> Receiver<L> {
             Err(LinkFault) => self.fail(),
         };
         match turn {
-            Turn::Used | Turn::Waited => self.or_lost(turn, ending, is_empty),
+            Turn::Used | Turn::Waited => self.or_end(turn, ending, is_empty),
             Turn::Starved | Turn::Ended(_) => turn,
         }
     }
@@ -229,7 +229,7 @@ impl<L: Link> Receiver<L> {
     }
 
     /// What a turn came to; the thread ends where the site is to end by this cause, or nothing shows the run going on for long.
-    fn or_lost(&mut self, turn: Turn, ending: Option<EndCause>, is_empty: bool) -> Turn {
+    fn or_end(&mut self, turn: Turn, ending: Option<EndCause>, is_empty: bool) -> Turn {
         match ending {
             Some(cause) if self.schedule.ends(self.now, is_empty) => self.end_by(cause),
             _ if self.schedule.is_silent(self.now) => self.end_by(EndCause::Silence),

@@ -46,15 +46,15 @@ impl<J: Run, C: Core + Drop, N: CellName, G: Gate> Shared<'_, J, C, N, G> {
     }
 
     /// Whether the site is to end, by itself or with the run.
-    pub fn is_over<R: Clock>(&self, rt: &R) -> bool {
-        self.signals.is_over() || self.ending.is_over(rt)
+    pub fn is_to_end<R: Clock>(&self, rt: &R) -> bool {
+        self.signals.is_stopped() || self.ending.has_come(rt)
     }
 
     /// Why the thread that receives is to end, if it is: with the site or the run, or since no worker is left.
     pub fn ends_by<R: Clock>(&self, rt: &R) -> Option<EndCause> {
         // (the registry has no workers, so its one thread that acts is alone from the start)
         let is_deserted = self.cell.site().node != 0 && self.signals.is_deserted();
-        if is_deserted || self.is_over(rt) {
+        if is_deserted || self.is_to_end(rt) {
             Some(self.ending.cause(rt))
         } else {
             None

@@ -28,7 +28,7 @@ use std::time::Clock;
 use std::{mem, thread};
 
 /// A prefix without a cover is worth telling of if a search of it takes so many visits.
-const TOLD: u64 = 4_096;
+const WORTH_TELLING: u64 = 4_096;
 
 /// So many visits show whether there is no cover below a prefix of which all children are known.
 const CLIMB: u64 = 256;
@@ -87,7 +87,7 @@ impl<'a, J: Run> Worker<'a, J> {
         rt: &R,
         actor: &mut Actor<'_, J, C, N, G>,
     ) -> Turn {
-        if actor.shared.signals.is_over() {
+        if actor.shared.signals.is_stopped() {
             return Turn::Ended(EndCause::Turns);
         }
         match mem::replace(&mut self.hand, Hand::Nothing) {
@@ -189,19 +189,19 @@ impl<'a, J: Run> Worker<'a, J> {
         gate.begun();
         let length = prefix.as_slice().len();
         let quota = self.pace.quota(length, self.limit);
-        let mut watch = SearchWatch::new(signals.over(), gate, length, fuel, quota);
+        let mut watch = SearchWatch::new(signals.stop_flag(), gate, length, fuel, quota);
         match self
             .searcher
             .find_so_far(prefix.into_vec(), fuel, &mut watch)
         {
-            Ok(Some((finding, count))) if !watch.is_over() => {
-                let visits = if keeps { watch.visits() } else { count };
-                gate.searched(&finding, visits);
+            Ok(Some((finding, count))) if !watch.is_called_off() => {
+                let made = if keeps { watch.made_visits() } else { count };
+                gate.searched(&finding, made);
                 if keeps {
                     self.share(signals, &watch);
                     self.tell_if_barren(rt, actor.shared.exchange, &finding, count);
                 }
-                self.pace.note(length, finding.outcome(), visits);
+                self.pace.note(length, finding.outcome(), made);
                 self.post(rt, actor, Searched { job, finding, run })
             }
             Ok(_) => Turn::Ended(EndCause::Turns),
@@ -221,10 +221,10 @@ impl<'a, J: Run> Worker<'a, J> {
     fn learn<R: Wait>(&mut self, rt: &R, exchange: &Exchange<J>) {
         for _ in 0..INBOX {
             // (an inbox full at most: others may add to it as fast as it is read, and the job waits)
-            let Some(told) = exchange.hear(rt, self.number) else {
+            let Some(heard) = exchange.hear(rt, self.number) else {
                 return;
             };
-            self.searcher.learn(told.prefix.as_slice(), told.count);
+            self.searcher.learn(heard.prefix.as_slice(), heard.count);
         }
     }
 
@@ -238,7 +238,7 @@ impl<'a, J: Run> Worker<'a, J> {
     )
         requires { is_prefix J.run.problem finding.now.prefix ≡ true }
     {
-        if finding.outcome() == Outcome::Barren && count >= TOLD {
+        if finding.outcome() == Outcome::Barren && count >= WORTH_TELLING {
             self.tell(rt, exchange, finding.prefix());
         }
     }
@@ -262,7 +262,7 @@ impl<'a, J: Run> Worker<'a, J> {
     /// Leaves the node's other workers something to do or not, by what the states saved: where they save very much, each other worker
     /// would find the same states once more, and all would take longer than one does.
     fn share<G: Gate>(&mut self, signals: &Signals, watch: &SearchWatch<'_, G>) {
-        match self.savings.note(watch.visits(), watch.gone()) {
+        match self.savings.note(watch.made_visits(), watch.gone()) {
             Shown::Much => signals.work_alone(self.number),
             Shown::Little => signals.work_together(self.number),
             Shown::Nothing => {}
