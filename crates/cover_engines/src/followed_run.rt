@@ -6,14 +6,13 @@ use brancher::{Finding, Outcome};
 use cover_problem::Problem;
 use dlx_reader::Sink;
 use search_engines::{LineTimer, Progress, ProgressLog, TreeEstimate};
-use spawn_frame::Job;
 use std::alloc::{AllocError, Global};
 use std::sync::atomic::{AtomicU64, Ordering};
 use std::sync::{Mutex, Wait};
 use std::time::Clock;
-use udp_node::{Gate, SiteEnd};
+use udp_node::{Follower, Gate, SiteEnd};
 
-/// A gate that lets all pass, and meanwhile writes now and then how far the run has come: of the tree, what is below prefixes that were
+/// Follows a run, and writes now and then how far it has come: of the tree, what is below prefixes that were
 /// searched without a cover, and what the search that reports has left behind it. Where the clock can't be read it writes nothing of that. It
 /// writes that many jobs count more prefixes than a job can, once that is so.
 #[derive(Drop)]
@@ -41,7 +40,7 @@ struct State<'a, E: Sink> {
 }
 
 impl<'a, E: Sink, R: Wait + Clock> FollowedRun<'a, E, R> {
-    /// A gate of a run that begins now. The only error is out of memory.
+    /// The follower of a run that begins now. The only error is out of memory.
     pub fn new(
         rt: &'a R,
         alloc: Global,
@@ -117,30 +116,26 @@ impl<'a, E: Sink> State<'a, E> {
     }
 }
 
-impl<'a, E: Sink, R: Wait + Clock> Gate for FollowedRun<'a, E, R> {
-    fn pass(&self, _worker: u8, _job: &Job) -> bool {
-        true
-    }
+impl<'a, E: Sink, R: Wait + Clock> Gate for FollowedRun<'a, E, R> {}
 
-    fn posted(&self, _worker: u8, _job: &Job) {}
-
+impl<'a, E: Sink, R: Wait + Clock> Follower for FollowedRun<'a, E, R> {
     fn begun(&self) {
         let mut state = self.state.lock(self.rt);
         state.jobs = state.jobs.saturating_add(1);
     }
 
-    fn seen(&self, length: usize, chosen: &[u16], visits: u64) {
+    fn seen(&self, length: usize, chosen: &[u16], made: u64) {
         let mut state = self.state.lock(self.rt);
         if let Some(seconds) = state.due(self.rt) {
             let share = state.estimate.share_below(length, chosen);
-            let progress = state.progress(seconds, visits, share);
+            let progress = state.progress(seconds, made, share);
             self.write(&mut state, progress);
         }
     }
 
-    fn searched(&self, finding: &Finding, visits: u64) {
+    fn searched(&self, finding: &Finding, made: u64) {
         let mut state = self.state.lock(self.rt);
-        state.note(finding, visits);
+        state.note(finding, made);
         if self.overcounts.hear(finding) {
             state.log.tell(Overcounts::LINE);
         }

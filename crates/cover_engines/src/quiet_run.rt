@@ -4,12 +4,11 @@ use crate::overcounts::Overcounts;
 use crate::reasons::Reasons;
 use brancher::Finding;
 use dlx_reader::Sink;
-use spawn_frame::Job;
 use std::sync::{Mutex, Wait};
-use udp_node::{Gate, SiteEnd};
+use udp_node::{Follower, Gate, SiteEnd};
 
-/// A gate that lets all pass, and keeps why a run ended without an answer. Before that it writes nothing, but that many jobs count more
-/// prefixes than a job can, once that is so: such a run may come to nothing. A fault of the sink is passed over.
+/// Follows a run, and keeps why it ended without an answer. Before that it writes nothing, but that many jobs count more prefixes than a job
+/// can, once that is so: such a run may come to nothing. A fault of the sink is passed over.
 #[derive(Drop)]
 pub struct QuietRun<'a, E: Sink, R: Wait> {
     rt: &'a R,
@@ -27,7 +26,7 @@ struct Heard<'a, E: Sink> {
 }
 
 impl<'a, E: Sink, R: Wait> QuietRun<'a, E, R> {
-    /// A gate of a run that hasn't begun.
+    /// The follower of a run that hasn't begun.
     pub fn new(rt: &'a R, sink: &'a mut E) -> QuietRun<'a, E, R> {
         let heard = Heard {
             sink,
@@ -47,14 +46,10 @@ impl<'a, E: Sink, R: Wait> QuietRun<'a, E, R> {
     }
 }
 
-impl<'a, E: Sink, R: Wait> Gate for QuietRun<'a, E, R> {
-    fn pass(&self, _worker: u8, _job: &Job) -> bool {
-        true
-    }
+impl<'a, E: Sink, R: Wait> Gate for QuietRun<'a, E, R> {}
 
-    fn posted(&self, _worker: u8, _job: &Job) {}
-
-    fn searched(&self, finding: &Finding, _visits: u64) {
+impl<'a, E: Sink, R: Wait> Follower for QuietRun<'a, E, R> {
+    fn searched(&self, finding: &Finding, _made: u64) {
         // (beside the lock, since each job comes here)
         if self.overcounts.hear(finding) {
             let mut state = self.state.lock(self.rt);

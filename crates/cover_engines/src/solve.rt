@@ -19,7 +19,7 @@ use std::marker::Brand;
 use std::sync::Wait;
 use std::thread::Threads;
 use std::time::{Clock, Duration};
-use udp_node::{EndCause, Gate, Link, Plan, RunPlan, SiteEnd, Timing, run_sites};
+use udp_node::{EndCause, Follower, Gate, Link, Plan, RunPlan, SiteEnd, Timing, run_sites};
 
 /// A problem that sites are to search, and how.
 #[derive(Clone, Copy)]
@@ -47,7 +47,7 @@ pub struct SolveEnd<J: Run> {
 pub fn solve_engine<
     J: Run + Send + Sync,
     L: Link + Send,
-    G: Gate + Sync,
+    G: Gate + Follower + Sync,
     R: Threads + Wait + Clock + Sync,
 >(
     rt: &R,
@@ -76,7 +76,7 @@ pub fn solve_engine<
 fn solve_within<
     J: Run + Send + Sync,
     L: Link + Send,
-    G: Gate + Sync,
+    G: Gate + Follower + Sync,
     R: Threads + Wait + Clock + Sync,
 >(
     rt: &R,
@@ -147,7 +147,7 @@ fn has_starved(sites: &[SiteEnd]) -> bool {
 fn write_run<
     J: Run + Send + Sync,
     L: Link + Send,
-    G: Gate + Sync,
+    G: Gate + Follower + Sync,
     W: Sink,
     R: Threads + Wait + Clock + Sync,
 >(
@@ -173,7 +173,7 @@ fn write_run<
 fn write_audited_run<
     J: Run + Send + Sync,
     L: Link + Send,
-    G: Gate + Sync,
+    G: Gate + Follower + Sync,
     W: Sink,
     R: Threads + Wait + Clock + Sync,
 >(
@@ -207,7 +207,12 @@ fn write_audited_run<
 ///
 /// The faults are `Write`, where the sink failed, and `Memory`. After `Write` a beginning of the text was written, after `Memory`
 /// nothing.
-pub fn solve_problem<L: Link + Send, G: Gate + Sync, W: Sink, R: Threads + Wait + Clock + Sync>(
+pub fn solve_problem<
+    L: Link + Send,
+    G: Gate + Follower + Sync,
+    W: Sink,
+    R: Threads + Wait + Clock + Sync,
+>(
     rt: &R,
     alloc: Global,
     task: SolveTask<'_>,

@@ -9,13 +9,13 @@ use crate::shared::Shared;
 use node_core::{Core, Event, Reply};
 use packet_wire::{Body, Packet, write_packet};
 use run_book::{CellName, Parcel, Pass, Run, Step};
-use site_limits::Gate;
+use site_limits::{Follower, Gate};
 use std::alloc::{AllocError, Global};
 use std::sync::Wait;
 
 /// A thread that acts at a site: its seat with the receipts, and its way into the outbox.
 #[derive(Drop)]
-pub struct Actor<'a, J: Run, C: Core + Drop, N: CellName, G: Gate> {
+pub struct Actor<'a, J: Run, C: Core + Drop, N: CellName, G: Gate + Follower> {
     /// What the threads of the site share.
     pub shared: &'a Shared<'a, J, C, N, G>,
     /// Its seat and receipts.
@@ -27,7 +27,7 @@ pub struct Actor<'a, J: Run, C: Core + Drop, N: CellName, G: Gate> {
     ghost here: { pass.outbox ≡ shared.now.outbox.now },
 }
 
-impl<'a, J: Run, C: Core + Drop, N: CellName, G: Gate> Actor<'a, J, C, N, G> {
+impl<'a, J: Run, C: Core + Drop, N: CellName, G: Gate + Follower> Actor<'a, J, C, N, G> {
     /// Returns an actor that hasn't acted so far. The only error is that no seats are left.
     pub fn new<R: Wait>(
         rt: &R,

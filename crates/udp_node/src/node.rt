@@ -20,7 +20,7 @@ use brancher::Tables;
 use cover_problem::Problem;
 use node_core::Core;
 use run_book::{CellName, Outbox, Run, SiteCell};
-use site_limits::{EndCause, Ending, Gate, Limits, Open, Plan, SiteEnd, Turn};
+use site_limits::{EndCause, Ending, Follower, Gate, Limits, Open, Plan, SiteEnd, Turn};
 use site_network::Link;
 use std::alloc::{AllocError, Global};
 use std::sync::Wait;
@@ -52,14 +52,21 @@ impl<L: Link> Task<L> {
 
 /// A thread of a site that acts, from its start to its end.
 #[derive(Drop)]
-struct ActingThread<'a, J: Run, C: Core + Drop, N: CellName, L: Link, G: Gate> {
+struct ActingThread<'a, J: Run, C: Core + Drop, N: CellName, L: Link, G: Gate + Follower> {
     task: Task<L>,
     actor: Actor<'a, J, C, N, G>,
     turns: u64,
     cause: EndCause,
 }
 
-impl<'a, J: Run, C: Core + Drop, N: CellName, L: Link, G: Gate> ActingThread<'a, J, C, N, L, G> {
+impl<'a, J: Run, C: Core + Drop, N: CellName, L: Link, G: Gate + Follower> ActingThread<
+    'a,
+    J,
+    C,
+    N,
+    L,
+    G,
+> {
     /// A thread before its start.
     fn new(task: Task<L>, actor: Actor<'a, J, C, N, G>) -> ActingThread<'a, J, C, N, L, G> {
         ActingThread {
@@ -95,7 +102,7 @@ fn noted<R: Wait + Clock>(rt: &R, limits: &mut Limits, turn: Turn) -> Option<End
 }
 
 /// Runs a worker to its end. It begins its turns once a thread of each kind has begun.
-fn work<J: Run, C: Core + Drop, N: CellName, G: Gate, R: Wait + Clock>(
+fn work<J: Run, C: Core + Drop, N: CellName, G: Gate + Follower, R: Wait + Clock>(
     rt: &R,
     actor: &mut Actor<'_, J, C, N, G>,
     number: u8,
@@ -121,7 +128,7 @@ fn work<J: Run, C: Core + Drop, N: CellName, G: Gate, R: Wait + Clock>(
 }
 
 /// The turns of a worker that has begun.
-fn take_turns<'a, J: Run, C: Core + Drop, N: CellName, G: Gate, R: Wait + Clock>(
+fn take_turns<'a, J: Run, C: Core + Drop, N: CellName, G: Gate + Follower, R: Wait + Clock>(
     rt: &R,
     actor: &mut Actor<'_, J, C, N, G>,
     worker: &mut Worker<'a, J>,
@@ -141,7 +148,7 @@ fn take_turns<'a, J: Run, C: Core + Drop, N: CellName, G: Gate, R: Wait + Clock>
 }
 
 /// Runs the thread that receives to its end. It begins its turns once a thread of each kind has begun.
-fn receive<J: Run, C: Core + Drop, N: CellName, L: Link, G: Gate, R: Wait + Clock>(
+fn receive<J: Run, C: Core + Drop, N: CellName, L: Link, G: Gate + Follower, R: Wait + Clock>(
     rt: &R,
     actor: &mut Actor<'_, J, C, N, G>,
     receiver: &mut Receiver<L>,
@@ -174,7 +181,7 @@ pub fn run_node<
     C: Core + Drop + Send,
     N: CellName + Send + Sync,
     L: Link + Send,
-    G: Gate + Sync,
+    G: Gate + Follower + Sync,
     R: Threads + Wait + Clock + Sync,
 >(
     rt: &R,
@@ -245,7 +252,7 @@ pub(crate) fn run_threads<
     C: Core + Drop + Send,
     N: CellName + Send + Sync,
     L: Link + Send,
-    G: Gate + Sync,
+    G: Gate + Follower + Sync,
     R: Threads + Wait + Clock + Sync,
 >(
     rt: &R,
@@ -302,7 +309,7 @@ pub(crate) fn run_threads<
 
 /// The threads of a site that act, with the room for what comes of them.
 #[derive(Drop)]
-struct Crew<'a, J: Run, C: Core + Drop, N: CellName, L: Link, G: Gate> {
+struct Crew<'a, J: Run, C: Core + Drop, N: CellName, L: Link, G: Gate + Follower> {
     threads: Vec<ActingThread<'a, J, C, N, L, G>>,
     seats: Vec<SeatReceipts<N>>,
     workers: u8,
@@ -311,7 +318,7 @@ struct Crew<'a, J: Run, C: Core + Drop, N: CellName, L: Link, G: Gate> {
     ghost room: { vec_len threads ≤ vec_capacity seats },
 }
 
-impl<'a, J: Run, C: Core + Drop, N: CellName, L: Link, G: Gate> Crew<'a, J, C, N, L, G> {
+impl<'a, J: Run, C: Core + Drop, N: CellName, L: Link, G: Gate + Follower> Crew<'a, J, C, N, L, G> {
     /// The threads before their start: the one that receives, and so many workers. The only error is out of memory, or that no
     /// seats are left.
     fn new<R: Wait>(
@@ -362,7 +369,7 @@ fn run_acting<
     C: Core + Drop + Send,
     N: CellName + Send + Sync,
     L: Link + Send,
-    G: Gate + Sync,
+    G: Gate + Follower + Sync,
     R: Threads + Wait + Clock + Sync,
 >(rt: &R, threads: &mut Vec<ActingThread<'_, J, C, N, L, G>>)
     ensures { vec_len threads.new ≡ vec_len threads.old }
@@ -383,7 +390,7 @@ fn run_acting<
 
 /// The threads before their start: the one that receives, and so many workers. The only error is out of memory, or that no seats
 /// are left.
-fn threads_for<'a, J: Run, C: Core + Drop, N: CellName, L: Link, G: Gate, R: Wait>(
+fn threads_for<'a, J: Run, C: Core + Drop, N: CellName, L: Link, G: Gate + Follower, R: Wait>(
     rt: &R,
     shared: &'a Shared<'a, J, C, N, G>,
     twin: L,
@@ -402,7 +409,7 @@ fn threads_for<'a, J: Run, C: Core + Drop, N: CellName, L: Link, G: Gate, R: Wai
 }
 
 /// Adds a thread before its start. The only error is out of memory, or that no seats are left.
-fn add_thread<'a, J: Run, C: Core + Drop, N: CellName, L: Link, G: Gate, R: Wait>(
+fn add_thread<'a, J: Run, C: Core + Drop, N: CellName, L: Link, G: Gate + Follower, R: Wait>(
     rt: &R,
     shared: &'a Shared<'a, J, C, N, G>,
     threads: &mut Vec<ActingThread<'a, J, C, N, L, G>>,
@@ -416,7 +423,7 @@ fn add_thread<'a, J: Run, C: Core + Drop, N: CellName, L: Link, G: Gate, R: Wait
 }
 
 /// Returns how the threads of a site ended, and whether there was one of each kind.
-fn end_of<J: Run, C: Core + Drop, N: CellName, L: Link, G: Gate>(
+fn end_of<J: Run, C: Core + Drop, N: CellName, L: Link, G: Gate + Follower>(
     crew: Crew<'_, J, C, N, L, G>,
     sent: Sent,
     is_manned: bool,
@@ -445,7 +452,7 @@ fn end_of<J: Run, C: Core + Drop, N: CellName, L: Link, G: Gate>(
 }
 
 /// The end of a site with that of one thread more.
-fn with_thread<J: Run, C: Core + Drop, N: CellName, L: Link, G: Gate>(
+fn with_thread<J: Run, C: Core + Drop, N: CellName, L: Link, G: Gate + Follower>(
     end: NodeEnd<N>,
     acting_thread: ActingThread<'_, J, C, N, L, G>,
 ) -> NodeEnd<N>

@@ -12,7 +12,7 @@ use crate::worker::{after, after_refusal};
 use node_core::{Core, Event};
 use packet_wire::{Body, Packet, WireFault, read_packet};
 use run_book::{CellName, Run};
-use site_limits::{EndCause, Gate, Turn};
+use site_limits::{EndCause, Follower, Gate, Turn};
 use site_network::{Link, LinkFault};
 use std::alloc::Global;
 use std::sync::Wait;
@@ -68,7 +68,7 @@ impl<L: Link> Receiver<L> {
     }
 
     /// A turn: greets the registry now and then, receives, and says again what may be lost.
-    pub fn turn<J: Run, C: Core + Drop, N: CellName, G: Gate, R: Wait + Clock>(
+    pub fn turn<J: Run, C: Core + Drop, N: CellName, G: Gate + Follower, R: Wait + Clock>(
         &mut self,
         rt: &R,
         actor: &mut Actor<'_, J, C, N, G>,
@@ -89,7 +89,7 @@ impl<L: Link> Receiver<L> {
     }
 
     /// Why the thread ends before it receives once more, if it does.
-    fn ended<J: Run, C: Core + Drop, N: CellName, G: Gate, R: Wait + Clock>(
+    fn ended<J: Run, C: Core + Drop, N: CellName, G: Gate + Follower, R: Wait + Clock>(
         &self,
         rt: &R,
         shared: &Shared<'_, J, C, N, G>,
@@ -106,7 +106,7 @@ impl<L: Link> Receiver<L> {
 
     /// Greets the registry, if it is time to: while workers search nothing else may be sent for long, and after a long silence registry
     /// and nodes give up.
-    fn greet<J: Run, C: Core + Drop, N: CellName, G: Gate, R: Wait + Clock>(
+    fn greet<J: Run, C: Core + Drop, N: CellName, G: Gate + Follower, R: Wait + Clock>(
         &mut self,
         rt: &R,
         actor: &mut Actor<'_, J, C, N, G>,
@@ -119,7 +119,7 @@ impl<L: Link> Receiver<L> {
 
     /// Receives once, and looks whether the site can go on. Whether the run is over is read before the receive: the registry announces the
     /// end first, so a receive that is empty after that shows that the node has received it, or never will.
-    fn receive<J: Run, C: Core + Drop, N: CellName, G: Gate, R: Wait + Clock>(
+    fn receive<J: Run, C: Core + Drop, N: CellName, G: Gate + Follower, R: Wait + Clock>(
         &mut self,
         rt: &R,
         actor: &mut Actor<'_, J, C, N, G>,
@@ -168,7 +168,7 @@ impl<L: Link> Receiver<L> {
 
     /// A datagram came: if it is a packet, it is delivered. One that is none takes no turn, and neither does one that brings only what was
     /// entered: that may show the run going on, but each would be an entry of the book.
-    fn hear<J: Run, C: Core + Drop, N: CellName, G: Gate, R: Wait + Clock>(
+    fn hear<J: Run, C: Core + Drop, N: CellName, G: Gate + Follower, R: Wait + Clock>(
         &mut self,
         rt: &R,
         actor: &mut Actor<'_, J, C, N, G>,
@@ -200,7 +200,7 @@ impl<L: Link> Receiver<L> {
     }
 
     /// Delivers a packet.
-    fn deliver<J: Run, C: Core + Drop, N: CellName, G: Gate, R: Wait + Clock>(
+    fn deliver<J: Run, C: Core + Drop, N: CellName, G: Gate + Follower, R: Wait + Clock>(
         &mut self,
         rt: &R,
         actor: &mut Actor<'_, J, C, N, G>,
@@ -238,7 +238,7 @@ impl<L: Link> Receiver<L> {
     }
 
     /// Says again what may be lost, if it is time to, after a turn that came to this.
-    fn say_again<J: Run, C: Core + Drop, N: CellName, G: Gate, R: Wait + Clock>(
+    fn say_again<J: Run, C: Core + Drop, N: CellName, G: Gate + Follower, R: Wait + Clock>(
         &mut self,
         rt: &R,
         actor: &mut Actor<'_, J, C, N, G>,

@@ -13,7 +13,7 @@ use crate::site_run::{RunContext, SiteRun};
 use brancher::Tables;
 use cover_problem::{Answer, Problem};
 use run_book::{Book, Run, published};
-use site_limits::{Ending, Gate, Plan, SiteEnd};
+use site_limits::{Ending, Follower, Gate, Plan, SiteEnd};
 use site_network::Link;
 use std::alloc::{AllocError, Global};
 use std::marker::PhantomData;
@@ -53,7 +53,7 @@ pub struct RunEnd<J: Run> {
 pub fn run_sites<
     J: Run + Send + Sync,
     L: Link + Send,
-    G: Gate + Sync,
+    G: Gate + Follower + Sync,
     R: Threads + Wait + Clock + Sync,
 >(
     rt: &R,
@@ -123,11 +123,12 @@ fn runs_for<J: Run, L: Link>(
 }
 
 /// Runs all sites to their ends, at once.
-fn run_all<J: Run + Send + Sync, L: Link + Send, G: Gate + Sync, R: Threads + Wait + Clock + Sync>(
-    rt: &R,
-    context: &RunContext<'_, J, G>,
-    runs: &mut Vec<SiteRun<J, L>>,
-)
+fn run_all<
+    J: Run + Send + Sync,
+    L: Link + Send,
+    G: Gate + Follower + Sync,
+    R: Threads + Wait + Clock + Sync,
+>(rt: &R, context: &RunContext<'_, J, G>, runs: &mut Vec<SiteRun<J, L>>)
     requires numbered { AreNumbered (λ site. site.node) runs.old.items }
     requires some { 0 < vec_len runs.old }
     ensures { AreNumbered (λ site. site.node) runs.new.items }

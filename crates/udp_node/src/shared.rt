@@ -5,13 +5,13 @@ use crate::signals::Signals;
 use brancher::Tables;
 use node_core::Core;
 use run_book::{CellName, Outbox, Run, SiteCell};
-use site_limits::{EndCause, Ending, Gate, Plan};
+use site_limits::{EndCause, Ending, Follower, Gate, Plan};
 use std::alloc::Global;
 use std::time::Clock;
 
 /// What the threads of a site share.
 #[derive(Drop)]
-pub struct Shared<'a, J: Run, C: Core + Drop, N: CellName, G: Gate> {
+pub struct Shared<'a, J: Run, C: Core + Drop, N: CellName, G: Gate + Follower> {
     /// The core and its history.
     pub cell: &'a SiteCell<J, C, N>,
     /// What is searched, with what the searches of it share.
@@ -35,7 +35,7 @@ pub struct Shared<'a, J: Run, C: Core + Drop, N: CellName, G: Gate> {
     pub ghost same: { tables.now ≡ J.run.problem },
 }
 
-impl<J: Run, C: Core + Drop, N: CellName, G: Gate> Shared<'_, J, C, N, G> {
+impl<J: Run, C: Core + Drop, N: CellName, G: Gate + Follower> Shared<'_, J, C, N, G> {
     /// Waits until a thread of each kind has begun, for some two seconds at most. Then the nodes may begin, if the site is the registry's:
     /// they wait for it, so that it gets its threads where few can be started. Where a thread is missing the site ends.
     pub fn muster<R: Clock>(&self, rt: &R) {

@@ -1,10 +1,10 @@
 use brancher::Tables;
-use site_limits::{Ending, Gate};
+use site_limits::{Ending, Follower, Gate};
 use std::alloc::Global;
 
 /// What the threads of a site are given besides their cell, their link and their plan.
 #[derive(Drop)]
-pub struct SiteContext<'a, G: Gate> {
+pub struct SiteContext<'a, G: Gate + Follower> {
     /// What is searched, with what the searches of it share.
     pub tables: &'a Tables<'a>,
     /// What holds workers back.

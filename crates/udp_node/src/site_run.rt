@@ -15,7 +15,7 @@ use cover_problem::Problem;
 use node_core::{Core, NodeCore};
 use root_registry::Registry;
 use run_book::{Book, CellName, CellParts, Run, SiteCell, cores_step_as_their_sites, sites_begin};
-use site_limits::{EndCause, Ending, Gate, Plan, SiteEnd};
+use site_limits::{EndCause, Ending, Follower, Gate, Plan, SiteEnd};
 use site_network::Link;
 use spawn_frame::Site;
 use std::alloc::{AllocError, Global};
@@ -29,7 +29,7 @@ const NAMES: u32 = 1_000_000;
 
 /// What the sites of a run share.
 #[derive(Drop)]
-pub struct RunContext<'a, J: Run, G: Gate> {
+pub struct RunContext<'a, J: Run, G: Gate + Follower> {
     /// What is searched.
     pub problem: &'a Problem,
     /// What the searches of it share.
@@ -50,7 +50,7 @@ pub struct RunContext<'a, J: Run, G: Gate> {
     pub ghost nodes: { plan.nodes ≡ J.run.nodes },
 }
 
-impl<J: Run, G: Gate> RunContext<'_, J, G> {
+impl<J: Run, G: Gate + Follower> RunContext<'_, J, G> {
     /// What the threads of each site are given.
     fn site_context(&self) -> SiteContext<'_, G>
         ensures { result.tables.now ≡ J.run.problem }
@@ -110,7 +110,7 @@ impl<J: Run, L: Link> SiteRun<J, L> {
     /// Runs all incarnations of the site to their ends, once, one after the other. A node waits until the registry's threads have begun,
     /// so that the registry gets its own where few can be started. The run ends if the others can't go on without the site afterwards, or
     /// no node is left.
-    pub fn run<G: Gate + Sync, R: Threads + Wait + Clock + Sync>(
+    pub fn run<G: Gate + Follower + Sync, R: Threads + Wait + Clock + Sync>(
         &mut self,
         rt: &R,
         context: &RunContext<'_, J, G>,
@@ -138,7 +138,7 @@ impl<J: Run, L: Link> SiteRun<J, L> {
 
     /// Runs all incarnations of the site to their ends. Its link stays open over all of them: the last has
     /// it, the others a twin of it.
-    fn run_incarnations<G: Gate + Sync, R: Threads + Wait + Clock + Sync>(
+    fn run_incarnations<G: Gate + Follower + Sync, R: Threads + Wait + Clock + Sync>(
         &mut self,
         rt: &R,
         context: &RunContext<'_, J, G>,
@@ -160,7 +160,7 @@ impl<J: Run, L: Link> SiteRun<J, L> {
     }
 
     /// Runs the next incarnation to its end, over this link, unless there is no memory for it.
-    fn run_next<G: Gate + Sync, R: Threads + Wait + Clock + Sync>(
+    fn run_next<G: Gate + Follower + Sync, R: Threads + Wait + Clock + Sync>(
         &mut self,
         rt: &R,
         context: &RunContext<'_, J, G>,
@@ -208,7 +208,12 @@ impl<J: Run, L: Link> SiteRun<J, L> {
 }
 
 /// Runs an incarnation of a site to its end. There is no book if there was no memory for it.
-fn run_site<J: Run + Send + Sync, L: Link + Send, G: Gate + Sync, R: Threads + Wait + Clock + Sync>(
+fn run_site<
+    J: Run + Send + Sync,
+    L: Link + Send,
+    G: Gate + Follower + Sync,
+    R: Threads + Wait + Clock + Sync,
+>(
     rt: &R,
     context: &RunContext<'_, J, G>,
     site: Site,
@@ -236,7 +241,7 @@ fn run_site<J: Run + Send + Sync, L: Link + Send, G: Gate + Sync, R: Threads + W
 fn start_registry<
     J: Run + Send + Sync,
     L: Link + Send,
-    G: Gate + Sync,
+    G: Gate + Follower + Sync,
     R: Threads + Wait + Clock + Sync,
 >(
     rt: &R,
@@ -258,7 +263,7 @@ fn start_registry<
 fn start_node<
     J: Run + Send + Sync,
     L: Link + Send,
-    G: Gate + Sync,
+    G: Gate + Follower + Sync,
     R: Threads + Wait + Clock + Sync,
 >(
     rt: &R,
@@ -290,7 +295,7 @@ fn run_registry<
     J: Run + Send + Sync,
     N: CellName + Send + Sync,
     L: Link + Send,
-    G: Gate + Sync,
+    G: Gate + Follower + Sync,
     R: Threads + Wait + Clock + Sync,
 >(
     rt: &R,
@@ -329,7 +334,7 @@ fn run_worker_node<
     J: Run + Send + Sync,
     N: CellName + Send + Sync,
     L: Link + Send,
-    G: Gate + Sync,
+    G: Gate + Follower + Sync,
     R: Threads + Wait + Clock + Sync,
 >(
     rt: &R,

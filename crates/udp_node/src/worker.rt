@@ -19,7 +19,7 @@ use node_core::{ActFault, Core, Event, Reply};
 use rand_core::utils::NextWord;
 use rand_pcg::Pcg32;
 use run_book::{BookFault, CellName, Run, Step};
-use site_limits::{EndCause, Gate, Pace, Plan, SearchWatch, Turn};
+use site_limits::{EndCause, Follower, Gate, Pace, Plan, SearchWatch, Turn};
 use spawn_frame::Job;
 use std::alloc::{AllocError, Global};
 use std::marker::PhantomData;
@@ -82,7 +82,7 @@ impl<'a, J: Run> Worker<'a, J> {
     }
 
     /// One turn: goes on with what is in hand, or takes up work, unless the site is to end.
-    pub fn turn<C: Core + Drop, N: CellName, G: Gate, R: Wait + Clock>(
+    pub fn turn<C: Core + Drop, N: CellName, G: Gate + Follower, R: Wait + Clock>(
         &mut self,
         rt: &R,
         actor: &mut Actor<'_, J, C, N, G>,
@@ -103,7 +103,7 @@ impl<'a, J: Run> Worker<'a, J> {
     }
 
     /// Takes up work: a unit is searched, a settled frame finished; where there is none it asks another site.
-    fn take<C: Core + Drop, N: CellName, G: Gate, R: Wait + Clock>(
+    fn take<C: Core + Drop, N: CellName, G: Gate + Follower, R: Wait + Clock>(
         &mut self,
         rt: &R,
         actor: &mut Actor<'_, J, C, N, G>,
@@ -138,7 +138,7 @@ impl<'a, J: Run> Worker<'a, J> {
     }
 
     /// There is nothing to do: another site is asked for work now and then.
-    fn rest<C: Core + Drop, N: CellName, G: Gate, R: Wait + Clock>(
+    fn rest<C: Core + Drop, N: CellName, G: Gate + Follower, R: Wait + Clock>(
         &mut self,
         rt: &R,
         actor: &mut Actor<'_, J, C, N, G>,
@@ -168,7 +168,7 @@ impl<'a, J: Run> Worker<'a, J> {
     }
 
     /// Searches a job's prefix, and posts what comes of it; it is given up once the site receives no more.
-    fn search<C: Core + Drop, N: CellName, G: Gate, R: Wait + Clock>(
+    fn search<C: Core + Drop, N: CellName, G: Gate + Follower, R: Wait + Clock>(
         &mut self,
         rt: &R,
         actor: &mut Actor<'_, J, C, N, G>,
@@ -261,7 +261,7 @@ impl<'a, J: Run> Worker<'a, J> {
 
     /// Leaves the node's other workers something to do or not, by what the states saved: where they save very much, each other worker
     /// would find the same states once more, and all would take longer than one does.
-    fn share<G: Gate>(&mut self, signals: &Signals, watch: &SearchWatch<'_, G>) {
+    fn share<F: Follower>(&mut self, signals: &Signals, watch: &SearchWatch<'_, F>) {
         match self.savings.note(watch.made_visits(), watch.gone()) {
             Shown::Much => signals.work_alone(self.number),
             Shown::Little => signals.work_together(self.number),
@@ -270,7 +270,7 @@ impl<'a, J: Run> Worker<'a, J> {
     }
 
     /// Posts what a search came to, once the gate lets it pass.
-    fn post<C: Core + Drop, N: CellName, G: Gate, R: Wait + Clock>(
+    fn post<C: Core + Drop, N: CellName, G: Gate + Follower, R: Wait + Clock>(
         &mut self,
         rt: &R,
         actor: &mut Actor<'_, J, C, N, G>,

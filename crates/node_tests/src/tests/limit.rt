@@ -14,7 +14,7 @@ use std::sync::Wait;
 use std::test::Fail;
 use std::thread::{self, Threads};
 use std::time::{Clock, Duration, Instant};
-use udp_node::{Gate, Plan, RunPlan, run_sites};
+use udp_node::{Follower, Gate, Plan, RunPlan, run_sites};
 
 /// A gate that lets nobody pass: no result is posted.
 struct Shut;
@@ -24,9 +24,9 @@ impl Gate for Shut {
         thread::yield_now();
         false
     }
-
-    fn posted(&self, _worker: u8, _job: &Job) {}
 }
+
+impl Follower for Shut {}
 
 /// Two nodes whose turns last for years, and which are never thought silent.
 const PLAN: Plan = Plan {

@@ -13,7 +13,7 @@ use run_probes::recorded;
 use spawn_frame::{Job, Site, Unit};
 use std::sync::{Arc, Mutex};
 use std::test::Fail;
-use udp_node::{Gate, Open, Plan, Timing};
+use udp_node::{Follower, Gate, Open, Plan, Timing};
 
 /// A gate that lets no first attempt at a guest pass: who takes the root in that attempt never posts it.
 struct HeldRoot;
@@ -22,9 +22,9 @@ impl Gate for HeldRoot {
     fn pass(&self, _worker: u8, job: &Job) -> bool {
         !matches!(job.unit, Unit::Guest(_, 1))
     }
-
-    fn posted(&self, _worker: u8, _job: &Job) {}
 }
+
+impl Follower for HeldRoot {}
 
 /// One node with one worker, whose turns are soon over.
 const PLAN: Plan = Plan {
