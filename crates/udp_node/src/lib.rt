@@ -24,6 +24,7 @@ mod shared;
 mod signals;
 mod site_context;
 mod site_run;
+mod turns;
 mod worker;
 
 pub use actor::asks_in_vain;

@@ -8,7 +8,7 @@ use crate::actor::Actor;
 use crate::exchange::Exchange;
 use crate::incarnation_plan::IncarnationPlan;
 use crate::node_end::NodeEnd;
-use crate::receiver::Receiver;
+use crate::receiver::{Receiver, ReceivingThread};
 use crate::schedule::Schedule;
 use crate::seat_receipts::SeatReceipts;
 use crate::sender::{Sender, Sent, send_all};
@@ -20,15 +20,12 @@ use brancher::Tables;
 use cover_problem::Problem;
 use node_core::Core;
 use run_book::{CellName, Outbox, Run, SiteCell};
-use site_limits::{EndCause, Ending, Follower, Gate, Limits, Open, Plan, SiteEnd, Turn};
+use site_limits::{EndCause, Ending, Follower, Gate, Limits, Open, Plan, SiteEnd};
 use site_network::Link;
 use std::alloc::{AllocError, Global};
 use std::sync::Wait;
 use std::thread::{self, Threads};
-use std::time::{Clock, Duration};
-
-/// How long a thread waits where memory ran out, in milliseconds.
-const SHORTAGE: u64 = 1;
+use std::time::Clock;
 
 /// What a thread is for.
 #[derive(Drop)]
@@ -93,14 +90,6 @@ impl<'a, J: Run, C: Core + Drop, N: CellName, L: Link, G: Gate + Follower> Actin
     }
 }
 
-/// Counts a turn, and waits a little if memory ran out, so that others may give some back. Returns the cause if the thread ends by it.
-fn noted<R: Wait + Clock>(rt: &R, limits: &mut Limits, turn: Turn) -> Option<EndCause> {
-    if turn == Turn::Starved {
-        thread::sleep(rt, Duration::from_millis(SHORTAGE));
-    }
-    limits.note(turn)
-}
-
 /// Runs a worker to its end. It begins its turns once a thread of each kind has begun.
 fn work<J: Run, C: Core + Drop, N: CellName, G: Gate + Follower, R: Wait + Clock>(
     rt: &R,
@@ -115,36 +104,15 @@ fn work<J: Run, C: Core + Drop, N: CellName, G: Gate + Follower, R: Wait + Clock
     }
     shared.signals.begin_working();
     shared.muster(rt);
-    let node = shared.cell.site().node;
-    match Worker::new(shared.alloc, shared.tables, shared.plan, node, number) {
+    match Worker::new(rt, actor, number) {
         Ok(mut worker) => {
-            let cause = take_turns(rt, actor, &mut worker, limits);
+            let cause = worker.run(limits);
             // (the others may have left all jobs to this worker, which does none from here on)
             shared.signals.work_together(number);
             cause
         }
         Err(_) => EndCause::Memory,
     }
-}
-
-/// The turns of a worker that has begun.
-fn take_turns<'a, J: Run, C: Core + Drop, N: CellName, G: Gate + Follower, R: Wait + Clock>(
-    rt: &R,
-    actor: &mut Actor<'_, J, C, N, G>,
-    worker: &mut Worker<'a, J>,
-    limits: &mut Limits,
-) -> EndCause {
-    // (a range in place of a loop without end, so that the prover sees it end; the limits end it long before)
-    for _turn in 0..u64::MAX {
-        if limits.is_spent() {
-            break;
-        }
-        let turn = worker.turn(rt, actor);
-        if let Some(cause) = noted(rt, limits, turn) {
-            return cause;
-        }
-    }
-    EndCause::Turns
 }
 
 /// Runs the thread that receives to its end. It begins its turns once a thread of each kind has begun.
@@ -160,16 +128,12 @@ fn receive<J: Run, C: Core + Drop, N: CellName, L: Link, G: Gate + Follower, R: 
     }
     shared.signals.begin_receiving();
     shared.muster(rt);
-    for _turn in 0..u64::MAX {
-        if limits.is_spent() {
-            break;
-        }
-        let turn = receiver.turn(rt, actor);
-        if let Some(cause) = noted(rt, limits, turn) {
-            return cause;
-        }
-    }
-    EndCause::Turns
+    let mut receiving = ReceivingThread {
+        rt,
+        actor,
+        receiver,
+    };
+    receiving.run(limits)
 }
 
 /// Runs the threads of a node to their ends: its workers, one that receives and one that sends. All seats come back, unless memory
