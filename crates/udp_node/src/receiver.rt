@@ -130,11 +130,11 @@ pub struct ReceivingThread<
     C: Core + Drop,
     N: CellName,
     L: Link,
-    G: Gate + Follower,
+    H: Gate + Follower,
     R: Wait + Clock,
 > {
     pub rt: &'r R,
-    pub actor: &'t mut Actor<'s, J, C, N, G>,
+    pub actor: &'t mut Actor<'s, J, C, N, H>,
     pub receiver: &'k mut Receiver<L>,
 }
 
@@ -143,9 +143,9 @@ impl<
     C: Core + Drop,
     N: CellName,
     L: Link,
-    G: Gate + Follower,
+    H: Gate + Follower,
     R: Wait + Clock,
-> ReceivingThread<'_, '_, '_, '_, J, C, N, L, G, R> {
+> ReceivingThread<'_, '_, '_, '_, J, C, N, L, H, R> {
     /// Takes turns until one ends the thread, or these limits do.
     pub fn run(&mut self, limits: &mut Limits) -> EndCause {
         for _turn in 0..u64::MAX {
@@ -183,7 +183,7 @@ impl<
         let is_spent = schedule.is_spent(self.receiver.now) || schedule.has_announced();
         if is_spent || shared.signals.is_stopped() {
             Some(EndCause::Turns)
-        } else if shared.ending.is_late(self.rt) {
+        } else if shared.context.ending.is_late(self.rt) {
             Some(EndCause::Time)
         } else {
             None
@@ -224,7 +224,7 @@ impl<
         if bytes.len() >= BUFFER {
             return self.receiver.drop_datagram();
         }
-        let packet = match read_packet(self.actor.shared.alloc, bytes) {
+        let packet = match read_packet(self.actor.shared.context.alloc, bytes) {
             Ok(packet) => packet,
             // (the packet is lost, as it may be on its way: what needs an answer is said again)
             Err(WireFault::Memory) => return Turn::Starved,

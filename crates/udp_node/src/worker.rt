@@ -42,11 +42,11 @@ pub struct Worker<
     J: Run,
     C: Core + Drop,
     N: CellName,
-    G: Gate + Follower,
+    H: Gate + Follower,
     R: Wait + Clock,
 > {
     rt: &'r R,
-    actor: &'t mut Actor<'s, J, C, N, G>,
+    actor: &'t mut Actor<'s, J, C, N, H>,
     searcher: Searcher<'s>,
     hand: Hand<J>,
     pace: Pace,
@@ -60,24 +60,24 @@ pub struct Worker<
     ghost same: { searcher.problem ≡ J.run.problem },
 }
 
-impl<'r, 't, 's, J: Run, C: Core + Drop, N: CellName, G: Gate + Follower, R: Wait + Clock> Worker<
+impl<'r, 't, 's, J: Run, C: Core + Drop, N: CellName, H: Gate + Follower, R: Wait + Clock> Worker<
     'r,
     't,
     's,
     J,
     C,
     N,
-    G,
+    H,
     R,
 > {
     /// The worker of this number that acts so, before its first turn. The only error is out of memory.
     pub fn new(
         rt: &'r R,
-        actor: &'t mut Actor<'s, J, C, N, G>,
+        actor: &'t mut Actor<'s, J, C, N, H>,
         number: u8,
-    ) -> Result<Worker<'r, 't, 's, J, C, N, G, R>, AllocError> {
+    ) -> Result<Worker<'r, 't, 's, J, C, N, H, R>, AllocError> {
         let shared = actor.shared;
-        let (tables, alloc, plan) = (shared.tables, shared.alloc, shared.plan);
+        let (tables, alloc, plan) = (shared.context.tables, shared.context.alloc, shared.plan);
         // (a stream for each worker of the run: on one stream two workers would draw the same victims)
         let stream = u64::from(shared.cell.site().node) * 16 + u64::from(number);
         let alone = plan.nodes == 1 && plan.workers == 1;
@@ -200,19 +200,19 @@ impl<'r, 't, 's, J: Run, C: Core + Drop, N: CellName, G: Gate + Follower, R: Wai
         self.limit = fuel.max(1);
         let keeps = self.searcher.keeps();
         let fuel = search_fuel(keeps, self.limit);
-        let (gate, signals) = (self.actor.shared.gate, self.actor.shared.signals);
+        let (hooks, signals) = (self.actor.shared.context.hooks, self.actor.shared.signals);
         self.learn();
-        gate.begun();
+        hooks.begun();
         let length = prefix.as_slice().len();
         let quota = self.pace.quota(length, self.limit);
-        let mut watch = SearchWatch::new(signals.stop_flag(), gate, length, fuel, quota);
+        let mut watch = SearchWatch::new(signals.stop_flag(), hooks, length, fuel, quota);
         match self
             .searcher
             .find_so_far(prefix.into_vec(), fuel, &mut watch)
         {
             Ok(Some((finding, count))) if !watch.is_called_off() => {
                 let made = if keeps { watch.made_visits() } else { count };
-                gate.searched(&finding, made);
+                hooks.searched(&finding, made);
                 if keeps {
                     self.share(&watch);
                     self.tell_if_barren(&finding, count);
@@ -269,13 +269,13 @@ impl<'r, 't, 's, J: Run, C: Core + Drop, N: CellName, G: Gate + Follower, R: Wai
             };
             shared
                 .exchange
-                .tell(self.rt, shared.alloc, self.number, front, count);
+                .tell(self.rt, shared.context.alloc, self.number, front, count);
         }
     }
 
     /// Leaves the node's other workers something to do or not, by what the states saved: where they save very much, each other worker
     /// would find the same states once more, and all would take longer than one does.
-    fn share(&mut self, watch: &SearchWatch<'_, G>) {
+    fn share(&mut self, watch: &SearchWatch<'_, H>) {
         let signals = self.actor.shared.signals;
         match self.savings.note(watch.made_visits(), watch.gone()) {
             Shown::Much => signals.work_alone(self.number),
@@ -286,8 +286,8 @@ impl<'r, 't, 's, J: Run, C: Core + Drop, N: CellName, G: Gate + Follower, R: Wai
 
     /// Posts what a search came to, once the gate lets it pass.
     fn post(&mut self, searched: Searched<J>) -> Turn {
-        let gate = self.actor.shared.gate;
-        if !gate.pass(self.number, &searched.job) {
+        let hooks = self.actor.shared.context.hooks;
+        if !hooks.pass(self.number, &searched.job) {
             self.hand = Hand::Post(searched);
             return Turn::Used;
         }
@@ -302,7 +302,7 @@ impl<'r, 't, 's, J: Run, C: Core + Drop, N: CellName, G: Gate + Follower, R: Wai
                 if outcome == Outcome::Spent {
                     self.actor.shared.signals.hunger().feed();
                 }
-                gate.posted(self.number, &job);
+                hooks.posted(self.number, &job);
                 Turn::Used
             }
             Err(back) => {
@@ -316,7 +316,7 @@ impl<'r, 't, 's, J: Run, C: Core + Drop, N: CellName, G: Gate + Follower, R: Wai
     fn search_again(&mut self, job: Job, finding: &Finding) -> Turn
         requires { is_prefix J.run.problem finding.now.prefix ≡ true }
     {
-        match Vec::from_slice(self.actor.shared.alloc, finding.prefix()) {
+        match Vec::from_slice(self.actor.shared.context.alloc, finding.prefix()) {
             Ok(prefix) => {
                 let fuel = self.limit.saturating_mul(16);
                 let prefix = Numbers::from_vec(prefix);

@@ -160,6 +160,8 @@ const PLAN: Plan = Plan {
     turns: 100_000,
     timing: SOON,
     entries: 1_000_000,
+    restarts: 0,
+    limit: None,
 };
 
 /// What a node has room for.
