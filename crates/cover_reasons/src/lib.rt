@@ -4,12 +4,12 @@
 
 mod bits;
 mod demand;
-mod kernel;
 mod kinds;
 mod laws;
 mod line;
 mod matching;
 mod neighbours;
+mod null_space;
 mod reason;
 mod reason_finder;
 mod reason_watch;
