@@ -5,12 +5,12 @@
 mod bits;
 mod demand;
 mod fractional_finder;
-mod kernel;
 mod kinds;
 mod laws;
 mod line;
 mod matching;
 mod neighbours;
+mod null_space;
 mod reason;
 mod reason_finder;
 mod reason_watch;
