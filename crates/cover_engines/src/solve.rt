@@ -60,7 +60,7 @@ pub fn solve_engine<
     requires problem { problem.now ≡ J.run.problem }
     requires nodes { settings.now.nodes ≡ J.run.nodes }
     requires links { vec_len links ≡ settings.now.nodes + 1 }
-    ensures told { IfOk result (λ end. IsRunEnd J.run end.answer end.books.items) }
+    ensures run_end { IfOk result (λ end. IsRunEnd J.run end.answer end.books.items) }
     ensures memory { IfErr result (λ fault. fault ≡ EngineFault.Memory) }
 {
     let task = SolveTask {
@@ -88,7 +88,7 @@ fn solve_within<
     requires problem { task.problem.now ≡ J.run.problem }
     requires nodes { task.settings.now.nodes ≡ J.run.nodes }
     requires links { vec_len links ≡ task.settings.now.nodes + 1 }
-    ensures told { IfOk result (λ end. IsRunEnd J.run end.answer end.books.items) }
+    ensures run_end { IfOk result (λ end. IsRunEnd J.run end.answer end.books.items) }
     ensures memory { IfErr result (λ fault. fault ≡ EngineFault.Memory) }
 {
     let ran = run_sites(rt, alloc, task.problem, plan_of(&task), links, hooks);
