@@ -3,7 +3,7 @@
 //! A portfolio, as in SAT competitions (plingeling, and Gomes and Selman, "Algorithm portfolios"): ways whose times have little to do with
 //! each other run side by side, and the first answer ends the others. Search and learner have a thread each, on any number of processors;
 //! workers of a run get what is more, so that two lanes that take turns aren't slowed down by a third. For a tenth of a second the search
-//! is alone, since most files are decided by then.
+//! is alone, since most files are decided by then, but for a reason that a thread of the third lane looks for.
 
 ghost use Rattle.std.specs.Prelude.{◌≤◌};
 

@@ -28,8 +28,8 @@ pub(crate) const LATE: u64 = 640;
 /// Which part of a search's time goes by at most while a reason is looked for.
 const PART: u64 = 64;
 
-/// How many options a problem has at most of which a reason is looked for at `EARLY`: of one with more, the first look at all options takes longer than
-/// a thousandth of a second.
+/// How many options a problem has at most of which a reason is looked for at `EARLY`: of one with more, the first look at all options takes
+/// longer than a thousandth of a second.
 const MOST_OPTIONS: usize = 2_000;
 
 /// How many items it has at most if multipliers are looked for then, too: with 1,000 their matrix takes 8 MB.
