@@ -153,6 +153,20 @@ def triples(points: int) -> str:
                  [[f"{a}-{b}", f"{a}-{c}", f"{b}-{c}"] for a, b, c in itertools.combinations(range(points), 3)])
 
 
+def courts(teams: int) -> str:
+    """Teams, each of which needs two of as many courts or the hall."""
+    on = [*itertools.combinations([f"c{court}" for court in range(teams)], 2), ("hall",)]
+    return lines([f"t{team}" for team in range(teams)], [*(f"c{court}" for court in range(teams)), "hall"],
+                 [[f"t{team}", *names] for team in range(teams) for names in on])
+
+
+def corners(columns: int) -> str:
+    """Pieces like an L on a board of three rows."""
+    squares = [[f"{row + down}-{column + right}" for down in (0, 1) for right in (0, 1)] for row in range(2) for column in range(columns - 1)]
+    return lines([f"{row}-{column}" for row in range(3) for column in range(columns)], [],
+                 [[cell for cell in square if cell != left_out] for square in squares for left_out in square])
+
+
 FAMILIES = [
     ("25 lessons in 24 periods", lessons(25, 24), "too little room: 25 needed, 24 there"),
     ("24 lessons in 24 periods", lessons(24, 24), None),
@@ -166,6 +180,9 @@ FAMILIES = [
         (5, 4, "just enough room, weights modulo 2"), (5, 5, None), (6, 5, None), (13, 12, "just enough room, weights modulo 2"))),
     *((f"{count} exams in {slots} slots", exams(count, slots), wanted) for count, slots, wanted in (
         (4, 3, "cliques, too little room: 4 needed, 3 there"), (4, 4, None), (10, 9, "cliques, too little room: 10 needed, 9 there"), (10, 10, None))),
+    *((f"{teams} teams on {teams} courts", courts(teams), f"too little room: {2 * teams} needed, {teams + 2} there") for teams in (5, 7, 9)),
+    *((f"3 rows of {columns} by pieces like an L", corners(columns), f"too little room: {2 * columns + 2} needed, {2 * columns - 1} there")
+      for columns in (3, 5, 7)),
     ("triples of 9 points", triples(9), None),
     ("triples of 10 points", triples(10), "weights modulo 2"),
     ("triples of 11 points", triples(11), "weights modulo 3"),

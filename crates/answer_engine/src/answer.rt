@@ -206,9 +206,9 @@ fn write_decided<V: EndWatch, W: Sink, R: Threads + Wait + Clock + Sync>(
 
 /// Reads a problem to its end, and writes an exact cover of it, with the options in the order of the file, or `none`, whichever of three
 /// lanes finds it first: a search that keeps states and looks for a reason; a learner, which begins a tenth of a second later; and,
-/// where more than two threads may work, the workers of a run in memory, which begin then, too. Where the time is limited it may write
-/// `no answer`. If that is asked for, what the answer rests on is written behind it. How far the search has come, and which lane was first,
-/// goes to the log.
+/// where more than two threads may work, a reason, after a hundredth of a second, and the workers of a run in memory. Where the time is
+/// limited it may write `no answer`. If that is asked for, what the answer rests on is written behind it. How far the search has come, and
+/// which lane was first, goes to the log.
 ///
 /// # Errors
 ///

@@ -202,7 +202,7 @@ fn ran<R: Threads + Wait + Clock + Sync>(
     }
 }
 
-/// What a reason says, or else a run of so many workers.
+/// What a reason says, or else, once the search has lasted a tenth of a second, a run of so many workers.
 fn excluded_or_ran<R: Threads + Wait + Clock + Sync>(
     rt: &R,
     alloc: Global,
@@ -217,10 +217,13 @@ fn excluded_or_ran<R: Threads + Wait + Clock + Sync>(
     if let Some(won) = excluded(alloc, problem, watch) {
         return Some(won);
     }
+    if !watch.race.begins_run(rt) {
+        return None;
+    }
     ran(rt, alloc, problem, workers, watch.race.over())
 }
 
-/// The lane of a reason and then of a run in memory, which begins a tenth of a second after the search, if so many threads are more than the
+/// The lane of a reason and then of a run in memory, which begins a hundredth of a second after the search, if so many threads are more than the
 /// other lanes need. Where memory runs out for it, or the run's books are full, it ends without an answer.
 pub(crate) fn run_lane<R: Threads + Wait + Clock + Sync>(
     rt: &R,
@@ -233,7 +236,7 @@ pub(crate) fn run_lane<R: Threads + Wait + Clock + Sync>(
 {
     let race = watch.race;
     let workers = workers_of(threads);
-    if workers == 0 || !race.begins_run(rt) {
+    if workers == 0 || !race.begins_reason(rt) {
         return None;
     }
     let found = excluded_or_ran(rt, alloc, problem, workers, watch);

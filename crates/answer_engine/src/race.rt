@@ -3,7 +3,7 @@
 //! A portfolio, as in SAT competitions (plingeling, and Gomes and Selman, "Algorithm portfolios"): ways whose times have little to do with
 //! each other run side by side, and the first answer ends the others. Search and learner have a thread each, on any number of processors;
 //! workers of a run get what is more, so that two lanes that take turns aren't slowed down by a third. For a tenth of a second the search
-//! is alone, since most files are decided by then.
+//! is alone, since most files are decided by then, but for a reason that a thread of the third lane looks for.
 
 ghost use Rattle.std.specs.Prelude.{◌≤◌};
 
@@ -13,8 +13,11 @@ use std::sync::atomic::{AtomicBool, Ordering};
 use std::thread::Parker;
 use std::time::{Clock, Duration};
 
-/// How many milliseconds the search is alone: what it decides in them needs no second thread at work.
+/// How many milliseconds the search is alone: what it decides in them needs no second thread at work, but for one that looks for a reason.
 const ALONE: u64 = 100;
+
+/// How many milliseconds it has before a reason is looked for on a processor of its own.
+const FIRST: u64 = 10;
 
 /// How many threads the first two lanes have: what is more works in the third.
 const LANES: u64 = 2;
@@ -65,18 +68,24 @@ impl Race {
 
     /// Waits, for the learner, as `is_begun` does for any lane.
     pub(crate) fn begins_learning<R: Wait>(&self, rt: &R) -> bool {
-        self.is_begun(rt, &self.learner)
+        self.is_begun(rt, &self.learner, ALONE)
     }
 
-    /// Waits, for the run, as `is_begun` does for any lane.
+    /// Waits, for the reason of the lane of the run, as `is_begun` does for any lane.
+    pub(crate) fn begins_reason<R: Wait>(&self, rt: &R) -> bool {
+        self.is_begun(rt, &self.run, FIRST)
+    }
+
+    /// Waits, for the run behind its reason, as `is_begun` does for any lane.
     pub(crate) fn begins_run<R: Wait>(&self, rt: &R) -> bool {
-        self.is_begun(rt, &self.run)
+        self.is_begun(rt, &self.run, ALONE - FIRST)
     }
 
-    /// Waits until the search has lasted long enough for a further lane, or has ended. Returns whether the lane is to begin: not where
-    /// the race is over, nor where the search hasn't begun. (The lane of a thread that can't be started runs before the others.)
-    fn is_begun<R: Wait>(&self, rt: &R, start: &Parker) -> bool {
-        start.park_timeout(rt, Duration::from_millis(ALONE));
+    /// Waits for so many milliseconds, after which the search has lasted long enough for a further lane, or until it has ended. Returns whether the
+    /// lane is to begin: not where the race is over, nor where the search hasn't begun. (The lane of a thread that can't be started runs before the
+    /// others.)
+    fn is_begun<R: Wait>(&self, rt: &R, start: &Parker, milliseconds: u64) -> bool {
+        start.park_timeout(rt, Duration::from_millis(milliseconds));
         self.has_begun.load(Ordering::SeqCst) && !self.is_over()
     }
 

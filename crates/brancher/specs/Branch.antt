@@ -2,8 +2,8 @@
 use Rattle.std.specs.Prelude.{ℕ, ◌<◌, List, length, Option, Some, None}
 use Rattle.cover_problem.specs.Branching.{IsOpen}
 use Rattle.cover_problem.specs.Problem.{Problem}
-use Rattle.brancher.specs.declared.ways.Branch.{Branch}
-use Rattle.brancher.specs.declared.ways.Branch.TheVariants.{Complete, Item}
+use Rattle.brancher.specs.declared.branches.Branch.{Branch}
+use Rattle.brancher.specs.declared.branches.Branch.TheVariants.{Complete, Item}
 
 -- the branch item in it
 abbrev pub branch_told : Branch → Option ℕ

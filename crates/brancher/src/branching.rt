@@ -5,7 +5,7 @@ ghost use Rattle.cover_problem.specs.Prefix.{is_covered, is_prefix};
 ghost use Rattle.cover_problem.specs.Branching.{live_options, branch_item};
 ghost use Rattle.brancher.specs.Branch.{branch_told, IsOpenBranch};
 
-use crate::ways::Branch;
+use crate::branches::Branch;
 use choices::Branching;
 use dancing_links::Links;
 use std::alloc::AllocError;

@@ -31,7 +31,7 @@ impl<'a> Kernel<'a> {
     }
 
     /// Live rows over the tables' sets, or links where there are none; the only error is out of memory.
-    pub fn over(alloc: Global, tables: &'a Tables<'a>) -> Result<Kernel<'a>, AllocError>
+    pub fn of_tables(alloc: Global, tables: &'a Tables<'a>) -> Result<Kernel<'a>, AllocError>
         ensures problem { IfOk result (λ kernel. (choices_in kernel).problem ≡ tables.now) }
         ensures chosen { IfOk result (λ kernel. (choices_in kernel).chosen ≡ []) }
     {

@@ -60,10 +60,10 @@ impl<'a> Searcher<'a> {
     }
 
     /// A search over the tables of a problem, which several searches may share; the only error is out of memory.
-    pub fn over(alloc: Global, tables: &'a Tables<'a>) -> Result<Searcher<'a>, AllocError>
+    pub fn of_tables(alloc: Global, tables: &'a Tables<'a>) -> Result<Searcher<'a>, AllocError>
         ensures { IfOk result (λ s. s.problem ≡ tables.now) }
     {
-        let kernel = Kernel::over(alloc, tables)?;
+        let kernel = Kernel::of_tables(alloc, tables)?;
         Ok(Searcher {
             kernel,
             kept: None,
@@ -71,8 +71,8 @@ impl<'a> Searcher<'a> {
         })
     }
 
-    /// A search as `over` makes it that keeps states which it found to have no cover, and goes past them when it meets them again. They take
-    /// at most so many bytes; where these are refused they take fewer, or it keeps none. The only error is out of memory.
+    /// A search as `of_tables` makes it that keeps states which it found to have no cover, and goes past them when it meets them again. They
+    /// take at most so many bytes; where these are refused they take fewer, or it keeps none. The only error is out of memory.
     pub fn keeping(
         alloc: Global,
         tables: &'a Tables<'a>,
@@ -80,7 +80,7 @@ impl<'a> Searcher<'a> {
     ) -> Result<Searcher<'a>, AllocError>
         ensures { IfOk result (λ s. s.problem ≡ tables.now) }
     {
-        let kernel = Kernel::over(alloc, tables)?;
+        let kernel = Kernel::of_tables(alloc, tables)?;
         let words = kernel.key_words();
         let kept = if words > 0 {
             // (no error if memory is refused: without states the search comes to the same, only later)

@@ -6,14 +6,13 @@ use brancher::{Finding, Outcome};
 use cover_problem::Problem;
 use dlx_reader::Sink;
 use search_engines::{LineTimer, Progress, ProgressLog, TreeEstimate};
-use spawn_frame::Job;
 use std::alloc::{AllocError, Global};
 use std::sync::atomic::{AtomicU64, Ordering};
 use std::sync::{Mutex, Wait};
 use std::time::Clock;
-use udp_node::{Gate, SiteEnd};
+use udp_node::{Follower, Gate, SiteEnd};
 
-/// A gate that lets all pass, and meanwhile writes now and then how far the run has come: of the tree, what is below prefixes that were
+/// Follows a run, and writes now and then how far it has come: of the tree, what is below prefixes that were
 /// searched without a cover, and what the search that reports has left behind it. Where the clock can't be read it writes nothing of that. It
 /// writes that many jobs count more prefixes than a job can, once that is so.
 #[derive(Drop)]
@@ -35,13 +34,13 @@ struct State<'a, E: Sink> {
     share: u64,
     jobs: u64,
     /// A site has ended with which the run ends: no line follows.
-    is_over: bool,
+    is_ended: bool,
     /// Why there is no answer, if the run ends without one.
     reasons: Reasons,
 }
 
 impl<'a, E: Sink, R: Wait + Clock> FollowedRun<'a, E, R> {
-    /// A gate of a run that begins now. The only error is out of memory.
+    /// The follower of a run that begins now. The only error is out of memory.
     pub fn new(
         rt: &'a R,
         alloc: Global,
@@ -56,7 +55,7 @@ impl<'a, E: Sink, R: Wait + Clock> FollowedRun<'a, E, R> {
             visits: 0,
             share: 0,
             jobs: 0,
-            is_over: false,
+            is_ended: false,
             reasons: Reasons::new(),
         };
         Ok(FollowedRun {
@@ -93,7 +92,7 @@ impl<'a, E: Sink> State<'a, E> {
 
     /// How many seconds are over, where a line is due.
     fn due<C: Clock>(&mut self, clock: &C) -> Option<u64> {
-        if self.is_over {
+        if self.is_ended {
             return None;
         }
         self.timer.due(clock, self.log.style())
@@ -101,7 +100,7 @@ impl<'a, E: Sink> State<'a, E> {
 
     /// Ends the last line, so that the answer is on one of its own. No line follows.
     fn end(&mut self) {
-        self.is_over = true;
+        self.is_ended = true;
         self.log.end();
     }
 
@@ -117,30 +116,26 @@ impl<'a, E: Sink> State<'a, E> {
     }
 }
 
-impl<'a, E: Sink, R: Wait + Clock> Gate for FollowedRun<'a, E, R> {
-    fn pass(&self, _worker: u8, _job: &Job) -> bool {
-        true
-    }
+impl<'a, E: Sink, R: Wait + Clock> Gate for FollowedRun<'a, E, R> {}
 
-    fn posted(&self, _worker: u8, _job: &Job) {}
-
+impl<'a, E: Sink, R: Wait + Clock> Follower for FollowedRun<'a, E, R> {
     fn begun(&self) {
         let mut state = self.state.lock(self.rt);
         state.jobs = state.jobs.saturating_add(1);
     }
 
-    fn seen(&self, length: usize, chosen: &[u16], visits: u64) {
+    fn seen(&self, length: usize, chosen: &[u16], made: u64) {
         let mut state = self.state.lock(self.rt);
         if let Some(seconds) = state.due(self.rt) {
             let share = state.estimate.share_below(length, chosen);
-            let progress = state.progress(seconds, visits, share);
+            let progress = state.progress(seconds, made, share);
             self.write(&mut state, progress);
         }
     }
 
-    fn searched(&self, finding: &Finding, visits: u64) {
+    fn searched(&self, finding: &Finding, made: u64) {
         let mut state = self.state.lock(self.rt);
-        state.note(finding, visits);
+        state.note(finding, made);
         if self.overcounts.hear(finding) {
             state.log.tell(Overcounts::LINE);
         }

@@ -4,12 +4,11 @@ use crate::overcounts::Overcounts;
 use crate::reasons::Reasons;
 use brancher::Finding;
 use dlx_reader::Sink;
-use spawn_frame::Job;
 use std::sync::{Mutex, Wait};
-use udp_node::{Gate, SiteEnd};
+use udp_node::{Follower, Gate, SiteEnd};
 
-/// A gate that lets all pass, and keeps why a run ended without an answer. Before that it writes nothing, but that many jobs count more
-/// prefixes than a job can, once that is so: such a run may come to nothing. A fault of the sink is passed over.
+/// Follows a run, and keeps why it ended without an answer. Before that it writes nothing, but that many jobs count more prefixes than a job
+/// can, once that is so: such a run may come to nothing. A fault of the sink is passed over.
 #[derive(Drop)]
 pub struct QuietRun<'a, E: Sink, R: Wait> {
     rt: &'a R,
@@ -23,16 +22,16 @@ struct Heard<'a, E: Sink> {
     sink: &'a mut E,
     reasons: Reasons,
     /// Why there is no answer, once the run is over without one.
-    told: Option<&'static str>,
+    unanswered: Option<&'static str>,
 }
 
 impl<'a, E: Sink, R: Wait> QuietRun<'a, E, R> {
-    /// A gate of a run that hasn't begun.
+    /// The follower of a run that hasn't begun.
     pub fn new(rt: &'a R, sink: &'a mut E) -> QuietRun<'a, E, R> {
         let heard = Heard {
             sink,
             reasons: Reasons::new(),
-            told: None,
+            unanswered: None,
         };
         QuietRun {
             rt,
@@ -43,18 +42,14 @@ impl<'a, E: Sink, R: Wait> QuietRun<'a, E, R> {
 
     /// Why there is no answer, if the run ended without one.
     pub fn reason(&self) -> Option<&'static str> {
-        self.state.lock(self.rt).told
+        self.state.lock(self.rt).unanswered
     }
 }
 
-impl<'a, E: Sink, R: Wait> Gate for QuietRun<'a, E, R> {
-    fn pass(&self, _worker: u8, _job: &Job) -> bool {
-        true
-    }
+impl<'a, E: Sink, R: Wait> Gate for QuietRun<'a, E, R> {}
 
-    fn posted(&self, _worker: u8, _job: &Job) {}
-
-    fn searched(&self, finding: &Finding, _visits: u64) {
+impl<'a, E: Sink, R: Wait> Follower for QuietRun<'a, E, R> {
+    fn searched(&self, finding: &Finding, _made: u64) {
         // (beside the lock, since each job comes here)
         if self.overcounts.hear(finding) {
             let mut state = self.state.lock(self.rt);
@@ -69,7 +64,7 @@ impl<'a, E: Sink, R: Wait> Gate for QuietRun<'a, E, R> {
     fn finished(&self, is_answered: bool) {
         let mut state = self.state.lock(self.rt);
         if !is_answered {
-            state.told = Some(state.reasons.reason());
+            state.unanswered = Some(state.reasons.reason());
         }
     }
 }

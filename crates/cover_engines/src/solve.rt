@@ -19,7 +19,7 @@ use std::marker::Brand;
 use std::sync::Wait;
 use std::thread::Threads;
 use std::time::{Clock, Duration};
-use udp_node::{EndCause, Gate, Link, Plan, RunPlan, SiteEnd, Timing, run_sites};
+use udp_node::{EndCause, Follower, Gate, Link, Plan, SiteEnd, Timing, run_sites};
 
 /// A problem that sites are to search, and how.
 #[derive(Clone, Copy)]
@@ -47,7 +47,7 @@ pub struct SolveEnd<J: Run> {
 pub fn solve_engine<
     J: Run + Send + Sync,
     L: Link + Send,
-    G: Gate + Sync,
+    H: Gate + Follower + Sync,
     R: Threads + Wait + Clock + Sync,
 >(
     rt: &R,
@@ -55,12 +55,12 @@ pub fn solve_engine<
     settings: &Settings,
     problem: &Problem,
     links: Vec<L>,
-    gate: &G,
+    hooks: &H,
 ) -> Result<SolveEnd<J>, EngineFault>
     requires problem { problem.now ≡ J.run.problem }
     requires nodes { settings.now.nodes ≡ J.run.nodes }
     requires links { vec_len links ≡ settings.now.nodes + 1 }
-    ensures told { IfOk result (λ end. IsRunEnd J.run end.answer end.books.items) }
+    ensures run_end { IfOk result (λ end. IsRunEnd J.run end.answer end.books.items) }
     ensures memory { IfErr result (λ fault. fault ≡ EngineFault.Memory) }
 {
     let task = SolveTask {
@@ -68,7 +68,7 @@ pub fn solve_engine<
         settings,
         limit: None,
     };
-    solve_within(rt, alloc, task, links, gate)
+    solve_within(rt, alloc, task, links, hooks)
 }
 
 /// Lets sites search as `solve_engine` does, for so much time if it is limited: then the run ends, and there is the answer that the
@@ -76,29 +76,22 @@ pub fn solve_engine<
 fn solve_within<
     J: Run + Send + Sync,
     L: Link + Send,
-    G: Gate + Sync,
+    H: Gate + Follower + Sync,
     R: Threads + Wait + Clock + Sync,
 >(
     rt: &R,
     alloc: Global,
     task: SolveTask<'_>,
     links: Vec<L>,
-    gate: &G,
+    hooks: &H,
 ) -> Result<SolveEnd<J>, EngineFault>
     requires problem { task.problem.now ≡ J.run.problem }
     requires nodes { task.settings.now.nodes ≡ J.run.nodes }
     requires links { vec_len links ≡ task.settings.now.nodes + 1 }
-    ensures told { IfOk result (λ end. IsRunEnd J.run end.answer end.books.items) }
+    ensures run_end { IfOk result (λ end. IsRunEnd J.run end.answer end.books.items) }
     ensures memory { IfErr result (λ fault. fault ≡ EngineFault.Memory) }
 {
-    let settings = task.settings;
-    let run_plan = RunPlan {
-        plan: plan_of(settings),
-        // (at most 100 by the type of the settings)
-        restarts: settings.restarts as u8,
-        limit: task.limit,
-    };
-    let ran = run_sites(rt, alloc, task.problem, run_plan, links, gate);
+    let ran = run_sites(rt, alloc, task.problem, plan_of(&task), links, hooks);
     let Ok(end) = ran else {
         return Err(EngineFault::Memory);
     };
@@ -106,25 +99,28 @@ fn solve_within<
     if end.answer.is_none() && has_starved(&end.sites) {
         return Err(EngineFault::Memory);
     }
-    gate.finished(end.answer.is_some());
+    hooks.finished(end.answer.is_some());
     Ok(SolveEnd {
         answer: end.answer,
         books: end.books,
     })
 }
 
-/// The plan of a run with these settings.
-fn plan_of(settings: &Settings<'_>) -> Plan
+/// The plan of a run with these settings, and so much time if it is limited.
+fn plan_of(task: &SolveTask<'_>) -> Plan
     ensures { result ≡ record {
-      workers = settings.now.workers;
-      nodes = settings.now.nodes;
-      fuel = settings.now.fuel;
-      seed = settings.now.seed;
-      turns = settings.now.turns;
+      workers = task.now.settings.now.workers;
+      nodes = task.now.settings.now.nodes;
+      fuel = task.now.settings.now.fuel;
+      seed = task.now.settings.now.seed;
+      turns = task.now.settings.now.turns;
       timing = Timing.USUAL;
-      entries = settings.now.entries;
+      entries = task.now.settings.now.entries;
+      restarts = task.now.settings.now.restarts;
+      limit = task.now.limit;
     } }
 {
+    let settings = task.settings;
     Plan {
         workers: settings.workers,
         nodes: settings.nodes,
@@ -133,6 +129,9 @@ fn plan_of(settings: &Settings<'_>) -> Plan
         turns: u64::from(settings.turns),
         timing: Timing::USUAL,
         entries: u64::from(settings.entries),
+        // (at most 100 by the type of the settings)
+        restarts: settings.restarts as u8,
+        limit: task.limit,
     }
 }
 
@@ -147,7 +146,7 @@ fn has_starved(sites: &[SiteEnd]) -> bool {
 fn write_run<
     J: Run + Send + Sync,
     L: Link + Send,
-    G: Gate + Sync,
+    H: Gate + Follower + Sync,
     W: Sink,
     R: Threads + Wait + Clock + Sync,
 >(
@@ -155,7 +154,7 @@ fn write_run<
     alloc: Global,
     task: SolveTask<'_>,
     links: Vec<L>,
-    gate: &G,
+    hooks: &H,
     sink: &mut W,
 ) -> Result<u8, EngineFault>
     requires run { J.run ≡ record { problem = task.problem.now; nodes = task.settings.now.nodes } }
@@ -164,7 +163,7 @@ fn write_run<
     ensures failed { result ≡ Err EngineFault.Write → W.failed sink.new ≡ failed_once (W.failed sink.old) }
 {
     let problem = task.problem;
-    let end: SolveEnd<J> = solve_within(rt, alloc, task, links, gate)?;
+    let end: SolveEnd<J> = solve_within(rt, alloc, task, links, hooks)?;
     write_published(problem, end.answer.as_ref(), sink)
 }
 
@@ -173,7 +172,7 @@ fn write_run<
 fn write_audited_run<
     J: Run + Send + Sync,
     L: Link + Send,
-    G: Gate + Sync,
+    H: Gate + Follower + Sync,
     W: Sink,
     R: Threads + Wait + Clock + Sync,
 >(
@@ -181,7 +180,7 @@ fn write_audited_run<
     alloc: Global,
     task: SolveTask<'_>,
     links: Vec<L>,
-    gate: &G,
+    hooks: &H,
     sink: &mut W,
 ) -> Result<u8, EngineFault>
     requires run { J.run ≡ record { problem = task.problem.now; nodes = task.settings.now.nodes } }
@@ -193,7 +192,7 @@ fn write_audited_run<
     // (a law, empty at run time: it ties the answer that is written to the books that are audited)
     a_book_tells_what_is_published();
     let problem = task.problem;
-    let end: SolveEnd<J> = solve_within(rt, alloc, task, links, gate)?;
+    let end: SolveEnd<J> = solve_within(rt, alloc, task, links, hooks)?;
     let found = audit(alloc, &end.books);
     write_audited(alloc, problem, end.answer.as_ref(), found, sink)
 }
@@ -207,12 +206,17 @@ fn write_audited_run<
 ///
 /// The faults are `Write`, where the sink failed, and `Memory`. After `Write` a beginning of the text was written, after `Memory`
 /// nothing.
-pub fn solve_problem<L: Link + Send, G: Gate + Sync, W: Sink, R: Threads + Wait + Clock + Sync>(
+pub fn solve_problem<
+    L: Link + Send,
+    H: Gate + Follower + Sync,
+    W: Sink,
+    R: Threads + Wait + Clock + Sync,
+>(
     rt: &R,
     alloc: Global,
     task: SolveTask<'_>,
     links: Vec<L>,
-    gate: &G,
+    hooks: &H,
     sink: &mut W,
 ) -> Result<u8, EngineFault>
     requires links { vec_len links ≡ task.settings.now.nodes + 1 }
@@ -226,7 +230,7 @@ pub fn solve_problem<L: Link + Send, G: Gate + Sync, W: Sink, R: Threads + Wait 
 {
     if task.settings.audit {
         // (a type names the run in the contracts of books and sites: here Brand gets the name of this one)
-        return write_audited_run::<Brand, L, G, W, R>(rt, alloc, task, links, gate, sink);
+        return write_audited_run::<Brand, L, H, W, R>(rt, alloc, task, links, hooks, sink);
     }
-    write_run::<Brand, L, G, W, R>(rt, alloc, task, links, gate, sink)
+    write_run::<Brand, L, H, W, R>(rt, alloc, task, links, hooks, sink)
 }

@@ -4,12 +4,13 @@
 
 mod bits;
 mod demand;
-mod kernel;
+mod fractional_finder;
 mod kinds;
 mod laws;
 mod line;
 mod matching;
 mod neighbours;
+mod null_space;
 mod reason;
 mod reason_finder;
 mod reason_watch;
@@ -22,9 +23,12 @@ mod weights;
 mod weights_finder;
 mod weights_test;
 
+pub use fractional_finder::find_fractional_room_until;
 pub use laws::{lack_of_room_excludes_covers, reasons_exclude_covers, weights_exclude_covers};
 pub use reason::{Reason, holds_of};
-pub use reason_finder::{find_reason, find_reason_until};
+pub use reason_finder::{
+    find_fractional_reason_until, find_reason, find_reason_until, find_short_reason_until,
+};
 pub use reason_watch::{Endless, ReasonWatch};
 pub use room::Room;
 pub use room_finder::find_room;

@@ -1,12 +1,11 @@
 //! The search for weights that exclude an exact cover, modulo each of some small numbers.
 //!
-//! Fractions aren't tried as weights: in 17 timetables and pigeonholes without a cover they gave no reason where kinds of items
-//! (`room_finder`) gave none, and whole numbers modulo m can be added up by hand.
+//! Fractions come later (`fractional_finder`): it takes longer to find them, and whole numbers modulo m can be added up by hand.
 
 ghost use Rattle.std.specs.Prelude.{◌≡◌, ◌≤◌, true, IfOk, IfSome};
 ghost use Rattle.cover_reasons.specs.Weights.{excludes};
 
-use crate::kernel::Kernel;
+use crate::null_space::NullSpace;
 use crate::reason_watch::{Endless, ReasonWatch};
 use crate::weights::Weights;
 use crate::weights_test::excludes;
@@ -62,14 +61,14 @@ fn weights_modulo<W: ReasonWatch>(
     if watch.look() {
         return Ok(None);
     }
-    let mut kernel = Kernel::new(alloc, modulus, problem.primary())?;
-    if !are_balanced_by(&mut kernel, problem, watch) {
+    let mut null_space = NullSpace::new(alloc, modulus, problem.primary())?;
+    if !are_balanced_by(&mut null_space, problem, watch) {
         return Ok(None);
     }
-    let Some(place) = kernel.best(alloc)? else {
+    let Some(place) = null_space.best(alloc)? else {
         return Ok(None);
     };
-    let weights = Weights::from_parts(u32::from(modulus), kernel.vector(alloc, place)?);
+    let weights = Weights::from_parts(u32::from(modulus), null_space.vector(alloc, place)?);
     if excludes(problem, &weights) {
         return Ok(Some(weights));
     }
@@ -77,12 +76,16 @@ fn weights_modulo<W: ReasonWatch>(
 }
 
 /// Makes each option weigh 0, as long as all items together weigh something and the watch doesn't end it. Returns whether each one does.
-fn are_balanced_by<W: ReasonWatch>(kernel: &mut Kernel, problem: &Problem, watch: &mut W) -> bool {
+fn are_balanced_by<W: ReasonWatch>(
+    null_space: &mut NullSpace,
+    problem: &Problem,
+    watch: &mut W,
+) -> bool {
     for option in 0..problem.options() as u16 {
-        if !kernel.has_whole() || watch.look() {
+        if !null_space.has_whole() || watch.look() {
             return false;
         }
-        kernel.add(problem.option(option));
+        null_space.add(problem.option(option));
     }
     true
 }

@@ -41,7 +41,7 @@ impl<'a> Decider<'a> {
         ensures problem { IfOk result (λ s. s.problem ≡ tables.now) }
         ensures found { IfOk result (λ s. s.found ≡ []) }
     {
-        let kernel = Kernel::over(alloc, tables)?;
+        let kernel = Kernel::of_tables(alloc, tables)?;
         let kept = Kept::build(alloc, tables.problem(), kernel.key_words(), room)?;
         Ok(Decider { kernel, kept })
     }

@@ -8,7 +8,7 @@ ghost use Rattle.used_items.specs.Orders.{IsPromoted};
 use crate::text::{clique_lines_of, lines_of, promoted_lines_of};
 use clash_cliques::{RoomByCliques, find_room_by_cliques};
 use cover_problem::Problem;
-use cover_reasons::{Reason, ReasonWatch, find_reason_until};
+use cover_reasons::{Reason, ReasonWatch, find_fractional_reason_until, find_short_reason_until};
 use std::alloc::{AllocError, Global};
 use used_items::{WithUsedItems, with_used_items};
 
@@ -35,7 +35,7 @@ fn cause_by_use<W: ReasonWatch>(
     ensures cause { IfOk result (λ found. IfSome found (IsCause _problem.now)) }
     ensures barren { IfOk result (λ found. IfSome found (λ cause. IsBarren _problem.now [])) }
 {
-    match find_reason_until(alloc, &made.problem, watch)? {
+    match find_short_reason_until(alloc, &made.problem, watch)? {
         Some(reason) => Ok(Some(Cause::ByUsedItems(made, reason))),
         None => Ok(None),
     }
@@ -89,6 +89,36 @@ fn cause_by_implied<W: ReasonWatch>(
     }
 }
 
+/// A cause by multipliers of any size. The only error is out of memory.
+fn cause_by_multipliers<W: ReasonWatch>(
+    alloc: Global,
+    problem: &Problem,
+    watch: &mut W,
+) -> Result<Option<Cause>, AllocError>
+    ensures cause { IfOk result (λ found. IfSome found (IsCause problem.now)) }
+    ensures barren { IfOk result (λ found. IfSome found (λ cause. IsBarren problem.now [])) }
+{
+    match find_fractional_reason_until(alloc, problem, watch)? {
+        Some(reason) => Ok(Some(Cause::AsItStands(reason))),
+        None => Ok(None),
+    }
+}
+
+/// A cause that takes longer to find than a short reason: by what the problem implies, or else by multipliers of any size, which take longest.
+fn cause_at_length<W: ReasonWatch>(
+    alloc: Global,
+    problem: &Problem,
+    watch: &mut W,
+) -> Result<Option<Cause>, AllocError>
+    ensures cause { IfOk result (λ found. IfSome found (IsCause problem.now)) }
+    ensures barren { IfOk result (λ found. IfSome found (λ cause. IsBarren problem.now [])) }
+{
+    match cause_by_implied(alloc, problem, watch)? {
+        Some(cause) => Ok(Some(cause)),
+        None => cause_by_multipliers(alloc, problem, watch),
+    }
+}
+
 /// Why the problem has no exact cover, as it stands, with those items primary that each exact cover uses, or with items for cliques of options
 /// that clash, if that is found before the watch ends it. Where none is found there may be a cover or none. The only error is out of memory.
 pub fn find_cause_until<W: ReasonWatch>(
@@ -99,9 +129,9 @@ pub fn find_cause_until<W: ReasonWatch>(
     ensures cause { IfOk result (λ found. IfSome found (IsCause problem.now)) }
     ensures barren { IfOk result (λ found. IfSome found (λ cause. IsBarren problem.now [])) }
 {
-    match find_reason_until(alloc, problem, watch)? {
+    match find_short_reason_until(alloc, problem, watch)? {
         Some(reason) => Ok(Some(Cause::AsItStands(reason))),
-        None => cause_by_implied(alloc, problem, watch),
+        None => cause_at_length(alloc, problem, watch),
     }
 }
 

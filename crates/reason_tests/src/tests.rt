@@ -1,14 +1,16 @@
 //! Reasons that are found and reasons that are given by hand.
 //!
 //! Of the bugs of `cover_reasons` that are kept outside the gate, `a_watch_ends_the_search_for_a_reason` finds
-//! `weights_are_found_to_the_end` and `kinds_are_looked_at_to_the_end`.
+//! `weights_are_found_to_the_end` and `kinds_are_looked_at_to_the_end`, and `a_watch_ends_the_pivots` finds `pivots_are_made_to_the_end`.
+//!
+//! Of the bugs of `fractional_room` that are kept outside the gate, `small_reasons` finds `a_need_is_taken_for_room`.
 
 mod texts;
 
 use cover_problem::Problem;
 use cover_reasons::{
-    Reason, ReasonWatch, Room, Weights, excludes, find_reason, find_reason_until, find_room,
-    find_weights, is_too_little,
+    Endless, Reason, ReasonWatch, Room, Weights, excludes, find_fractional_room_until, find_reason,
+    find_reason_until, find_room, find_weights, is_too_little,
 };
 use dlx_reader::read_problem;
 use std::alloc::{AllocError, Global};
@@ -133,6 +135,18 @@ fn found_within<R: Abort>(rt: &R, alloc: Global, problem: &Problem, most: u64) -
     (found_of(reason), watch.looks)
 }
 
+/// The courts: it is asked before each pivot, and at the last one's there are no multipliers yet.
+#[test]
+fn a_watch_ends_the_pivots(rt: HostRuntime) -> Result<(), Fail> {
+    let alloc = rt.alloc();
+    let problem = problem_of(&rt, alloc, SMALL[8].0);
+    let (whole, looks) = found_within(&rt, alloc, &problem, u64::MAX);
+    assert_eq!(rt; whole, Found::Needs(6, 5));
+    let (late, _) = found_within(&rt, alloc, &problem, looks.saturating_sub(1));
+    assert_eq!(rt; late, Found::Nothing);
+    Ok(())
+}
+
 /// Problems of which something is found by weights, by the periods of a teacher, and by the sides of a board.
 static ENDED: [(Family, Found); 3] = [
     (Family::Tetrominoes(6), Found::Modulo(8)),
@@ -160,7 +174,7 @@ fn a_watch_ends_the_search_for_a_reason(rt: HostRuntime) -> Result<(), Fail> {
 }
 
 /// Small problems, and what is found of them.
-static SMALL: [(&str, Found); 8] = [
+static SMALL: [(&str, Found); 13] = [
     // an item in no option
     ("a b\na\n", Found::Needs(1, 0)),
     // two options that share a secondary item
@@ -183,6 +197,32 @@ static SMALL: [(&str, Found); 8] = [
     ),
     // there is a cover
     ("a b c\na b\nc\n", Found::Nothing),
+    // each of three teams needs two of three courts or the hall, so 2 each: courts have room 1, the hall 2
+    (
+        "a b c | x y z h\na x y\na x z\na y z\na h\nb x y\nb x z\nb y z\nb h\nc x y\nc x z\nc y z\nc h\n",
+        Found::Needs(6, 5),
+    ),
+    // nine cells by pieces like an L, each of which has a corner, which needs 2, and two others, with room 1, or no corner
+    (
+        "a b c d e f g h i\na b d\na b e\na d e\nb d e\nb c e\nb c f\nb e f\nc e f\nd e g\nd e h\nd g h\ne g h\ne f h\ne f i\ne h i\nf h i\n",
+        Found::Needs(8, 5),
+    ),
+    // c takes Ann's Monday, d takes Bob's, so both want the room on Tuesday: a, b, c and d need 1, and Ann's and Bob's Monday and the room's
+    // Tuesday have room 1
+    (
+        "a b c d | A1 A2 B1 B2 T1 T2\na A1 T1\na A2 T2\nb B1 T1\nb B2 T2\nc A1\nd B1\n",
+        Found::Needs(4, 3),
+    ),
+    // the same with a cover: Bob has another one
+    (
+        "a b c d | A1 A2 B1 B2 T1 T2\na A1 T1\na A2 T2\nb B1 T1\nb B2 T2\nc A1\nd B2\n",
+        Found::Nothing,
+    ),
+    // the courts once more, where options give each court one colour, so that it has no room
+    (
+        "a b c | x y z h\na x:1 y:1\na x:1 z:1\na y:1 z:1\na h\nb x:1 y:1\nb x:1 z:1\nb h\nc x:1 y:1\nc h\n",
+        Found::Nothing,
+    ),
 ];
 
 #[test]
@@ -289,6 +329,21 @@ fn rooms_by_hand(rt: HostRuntime) -> Result<(), Fail> {
     assert!(rt; !is_little(&problem, alloc, &[1, 1, 0], &[0, 0, 0, 1, 1])?);
     assert!(rt; !is_little(&problem, alloc, &[2, 1, 1], &[0, 0, 0, 1, 1])?);
     assert!(rt; find_room(alloc, &problem)?.is_some());
+    Ok(())
+}
+
+/// Multipliers by hand, right and wrong: each of three teams needs two of three courts or the hall, which is worth two.
+#[test]
+fn multipliers_by_hand(rt: HostRuntime) -> Result<(), Fail> {
+    let alloc = rt.alloc();
+    let text =
+        "a b c | x y z h\na x y\na x z\na y z\na h\nb x y\nb x z\nb y z\nb h\nc x y\nc x z\nc y z\nc h\n";
+    let problem = problem_of(&rt, alloc, text);
+    assert!(rt; is_little(&problem, alloc, &[2, 2, 2], &[0, 0, 0, 1, 1, 1, 2])?);
+    assert!(rt; !is_little(&problem, alloc, &[2, 2, 2], &[0, 0, 0, 1, 1, 1, 1])?);
+    assert!(rt; !is_little(&problem, alloc, &[1, 1, 1], &[0, 0, 0, 1, 1, 1, 2])?);
+    let room = find_fractional_room_until(alloc, &problem, &mut Endless)?;
+    assert!(rt; found_of(room.map(|room| Reason::TooLittleRoom(room))) == Found::Needs(6, 5));
     Ok(())
 }
 

@@ -117,11 +117,15 @@ pub fn has_site<J: Run>(site: Site, books: &[Book<J>]) -> bool
 
 /// The result in the first Accept of these packets.
 fn first_accepted(packets: &[Packet]) -> Option<&ChildResult>
-    ensures { option_map (λ told. told.now) result ≡ first_accepted packets.now }
+    ensures { option_map (λ accepted. accepted.now) result ≡ first_accepted packets.now }
 {
     for packet in packets {
-        if let Body::Accept { result: told, .. } = &packet.body {
-            return Some(told);
+        if let Body::Accept {
+            result: accepted,
+            ..
+        } = &packet.body
+        {
+            return Some(accepted);
         }
     }
     None
@@ -129,12 +133,12 @@ fn first_accepted(packets: &[Packet]) -> Option<&ChildResult>
 
 /// The result in the first Accept of these entries.
 fn first_result(entries: &[Entry]) -> Option<&ChildResult>
-    ensures { option_map (λ told. told.now) result ≡ first_result entries.now }
+    ensures { option_map (λ accepted. accepted.now) result ≡ first_result entries.now }
 {
     for entry in entries {
         // (the first is enough: each later Accept of the registry repeats the root's result, which is final)
-        if let Some(told) = first_accepted(entry.packets()) {
-            return Some(told);
+        if let Some(accepted) = first_accepted(entry.packets()) {
+            return Some(accepted);
         }
     }
     None

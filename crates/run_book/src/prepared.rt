@@ -12,11 +12,11 @@ use std::sync::Arc;
 #[derive(Drop)]
 pub struct Prepared {
     pub event: Event,
-    pub kept: Event,
-    pub told: Event,
+    pub for_book: Event,
+    pub for_caller: Event,
     pub room: AnswerRoom,
-    pub ghost kept_same: { kept ≡ event },
-    pub ghost told_same: { told ≡ event },
+    pub ghost book_same: { for_book ≡ event },
+    pub ghost caller_same: { for_caller ≡ event },
     pub ghost wide: { room_for event ≤ vec_capacity room.prefix },
 }
 
@@ -39,10 +39,10 @@ impl Prepared {
         ensures back { IfErr result (λ back. back ≡ event) }
     {
         // (the core takes the event itself, the book keeps one copy, and the other goes back to the caller, entered or refused)
-        let Ok(kept) = event.copy() else {
+        let Ok(for_book) = event.copy() else {
             return Err(event);
         };
-        let Ok(told) = event.copy() else {
+        let Ok(for_caller) = event.copy() else {
             return Err(event);
         };
         let Ok(room) = AnswerRoom::new(alloc, &event) else {
@@ -50,8 +50,8 @@ impl Prepared {
         };
         Ok(Prepared {
             event,
-            kept,
-            told,
+            for_book,
+            for_caller,
             room,
         })
     }

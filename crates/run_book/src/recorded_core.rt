@@ -67,8 +67,8 @@ struct Done {
 #[derive(Drop)]
 struct Acted {
     entry: Entry,
-    told: Step,
-    ghost same: { told ≡ entry },
+    for_caller: Step,
+    ghost same: { for_caller ≡ entry },
 }
 
 /// All that was handed in to `close`, and what is missing.
@@ -158,9 +158,9 @@ impl<J: Run, C: Core + Drop, N: CellName> RecordedCore<J, C, N> {
         }
         // (for its clause: no seat counts more than there are entries, as a refusal promises)
         self.seats.bound(seat);
-        let Acted { entry, told } = act_on(&mut self.core, prepared)?;
+        let Acted { entry, for_caller } = act_on(&mut self.core, prepared)?;
         let entry = self.repeated.shared(entry);
-        let receipt = self.register.enter(place, &entry, told);
+        let receipt = self.register.enter(place, &entry, for_caller);
         self.entries.push_reserved(entry);
         self.seats.count(seat);
         Ok(receipt)
@@ -263,8 +263,8 @@ fn act_on<C: Core>(core: &mut C, prepared: Prepared) -> Result<Acted, (Event, Bo
 {
     let Prepared {
         event,
-        kept,
-        told,
+        for_book,
+        for_caller,
         room,
     } = prepared;
     let AnswerRoom {
@@ -284,12 +284,12 @@ fn act_on<C: Core>(core: &mut C, prepared: Prepared) -> Result<Acted, (Event, Bo
     } = match run(core, event, packets, copies) {
         Ok(done) => done,
         // (the core has taken the event, so a copy of it goes back)
-        Err(fault) => return Err((told, of_core(fault))),
+        Err(fault) => return Err((for_caller, of_core(fault))),
     };
-    *written = Step::of(kept, copied_reply(&reply, prefix), copies);
+    *written = Step::of(for_book, copied_reply(&reply, prefix), copies);
     Ok(Acted {
         entry: Entry::new(step),
-        told: Step::of(told, reply, packets),
+        for_caller: Step::of(for_caller, reply, packets),
     })
 }
 

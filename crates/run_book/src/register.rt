@@ -122,9 +122,9 @@ impl<N: CellName> Register<N> {
     }
 
     /// Enters an entry at the end of the log, and gives its receipt, which is told the same.
-    pub fn enter(&mut self, place: u64, entry: &Entry, told: Step) -> Receipt<N>
+    pub fn enter(&mut self, place: u64, entry: &Entry, step: Step) -> Receipt<N>
         requires next { place ≡ length self.old.log }
-        requires same { told ≡ entry.now }
+        requires same { step ≡ entry.now }
         ensures receipt { result ≡ record { place = place; entry = entry.now } }
         ensures log { self.new.log ≡ self.old.log ++ entry.now ∷ [] }
         ensures back { self.new.back ≡ self.old.back }
@@ -135,7 +135,7 @@ impl<N: CellName> Register<N> {
             event,
             reply,
             packets,
-        } = told;
+        } = step;
         Receipt {
             place,
             event,

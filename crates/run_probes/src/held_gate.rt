@@ -1,6 +1,6 @@
 //! A gate that holds one worker back until another has posted.
 
-use site_limits::Gate;
+use site_limits::{Follower, Gate};
 use spawn_frame::{Job, Unit};
 use std::sync::atomic::{AtomicBool, AtomicU64, Ordering};
 use std::thread;
@@ -107,3 +107,5 @@ impl Gate for HeldGate {
         }
     }
 }
+
+impl Follower for HeldGate {}

@@ -2,7 +2,7 @@
 
 use crate::recorder::Sent;
 use packet_wire::{Body, Packet};
-use site_limits::Gate;
+use site_limits::{Follower, Gate};
 use spawn_frame::Job;
 use std::sync::Wait;
 use std::thread;
@@ -41,9 +41,9 @@ impl<R: Wait> Gate for SentGate<'_, R> {
             Expected::Hellos(count) => greetings(&sent) >= count,
         }
     }
-
-    fn posted(&self, _worker: u8, _job: &Job) {}
 }
+
+impl<R: Wait> Follower for SentGate<'_, R> {}
 
 /// Whom a node asked first for work.
 pub fn first_victim(sent: &[Packet], node: u8) -> Option<u8> {

@@ -94,8 +94,8 @@ fn write_limited<V: EndWatch, W: Sink, C: Clock>(
 }
 
 /// Does what `alone_engine` does within limits: it writes the first cover, or `none`, or `no answer` once a limit is met, of visits or of
-/// time. Without a limit it decides; where visits have none, it looks for a reason that there is no cover after a tenth of a second,
-/// before it searches on.
+/// time. Without a limit it decides; where visits have none, it looks for a reason that there is no cover after a hundredth of a
+/// second, shortly, and after a tenth of a second, before it searches on.
 ///
 /// Meanwhile it writes to the log how far the search has come, by the visits that it made itself: what lies below a state that it
 /// knows is skipped. The log changes no answer: a fault of its sink is passed over. `Memory` also comes where there is none for the

@@ -75,7 +75,7 @@ fn given_answer<V: Watch, C: Clock>(
 
 /// Returns the answer of a problem: its first cover, with its options in the order of the file, or that there is none; no answer where the
 /// search would make more visits than the limits allow, or has lasted as long as they do. Where visits have no limit, a reason is looked for
-/// after a tenth of a second. The only error is out of memory.
+/// after a hundredth of a second, shortly, and after a tenth. The only error is out of memory.
 #[tactic(auto, using(crate::proofs::Outcomes::whole_by, crate::proofs::Outcomes::timed_by))]
 pub fn answer_within<V: EndWatch, C: Clock>(
     clock: &C,

@@ -7,6 +7,7 @@ ghost use Rattle.search_engines.specs.Alone.{answer_by};
 ghost use Rattle.used_items.specs.Covers.{HaveSameCovers};
 
 use crate::deciding::searched;
+use crate::looking::{LATE, LookingWatch};
 use crate::walk_watch::{ForProblem, WalkWatch};
 use brancher::{Tables, Watch};
 use cover_problem::{Answer, Problem, in_order};
@@ -111,8 +112,29 @@ fn with_more_primary(alloc: Global, problem: &Problem) -> Option<WithUsedItems>
     }
 }
 
+/// Does what `searched_asking` does, but now and then both rest while a reason by multipliers is looked for. One that is found ends them.
+fn searched_at_length<V: Watch, C: Clock>(
+    clock: &C,
+    alloc: Global,
+    tables: &Tables<'_>,
+    made: Option<&WithUsedItems>,
+    watch: &mut V,
+) -> Result<Option<Answer>, AllocError>
+    requires { IfSome made (λ made. HaveSameCovers tables.now made.now.problem) }
+    ensures answer { IfOk result (λ found. IfSome found
+        (λ answer. answer ≡ answer_by tables.now (first tables.now []))) }
+    ensures order { IfOk result (λ found. IfSome found (IsWritable tables.now)) }
+{
+    let problem = tables.problem();
+    let mut looking = LookingWatch::new(clock, alloc, problem, watch, LATE);
+    if let Some(answer) = searched_asking(clock, alloc, tables, made, &mut looking)? {
+        return Ok(Some(answer));
+    }
+    Ok(looking.answer(problem))
+}
+
 /// Searches the problem, in turns with a walk that asks a learner, until it is decided or the watch stops both, and returns the answer, or
-/// none where it was stopped. The only error is out of memory.
+/// none where it was stopped. Now and then a reason is looked for. The only error is out of memory.
 pub(crate) fn searched_and_asked<V: Watch, C: Clock>(
     clock: &C,
     alloc: Global,
@@ -124,7 +146,7 @@ pub(crate) fn searched_and_asked<V: Watch, C: Clock>(
     ensures order { IfOk result (λ found. IfSome found (IsWritable tables.now)) }
 {
     let made = with_more_primary(alloc, tables.problem());
-    if let Some(answer) = searched_asking(clock, alloc, tables, made.as_ref(), watch)? {
+    if let Some(answer) = searched_at_length(clock, alloc, tables, made.as_ref(), watch)? {
         return Ok(Some(answer));
     }
     // (the watch stopped it, which it does again at its first look; or there was no memory for the walk)

@@ -2,8 +2,8 @@
 //! walk that asks a learner.
 //!
 //! A tenth of a second is searched first, then a reason is looked for, then the search begins again: so short searches don't wait for a
-//! reason, which may take most of a second, and what the short search did is little beside what may follow. If memory for the reason is
-//! refused, the search goes on.
+//! reason, which may take most of a second, and what the short search did is little beside what may follow. In both searches a `LookingWatch` looks
+//! for a reason, too, for little time. If memory for the reason is refused, the search goes on.
 
 ghost use Rattle.std.specs.Prelude.{◌≡◌, [], true, false, None, IfOk, IfSome, MatchOption};
 ghost use Rattle.cover_problem.specs.Search.{first};
@@ -11,10 +11,11 @@ ghost use Rattle.dlx_reader.specs.Writing.{IsWritable};
 ghost use Rattle.search_engines.specs.Alone.{answer_by};
 
 use crate::asking::searched_and_asked;
+use crate::looking::{EARLY, LookingWatch};
 use crate::stopwatch::Stopwatch;
 use brancher::{ROOM, Tables, Watch};
 use cover_problem::{Answer, Problem, in_order};
-use cover_reasons::{ReasonWatch, find_reason_until, holds_of};
+use cover_reasons::{ReasonWatch, find_short_reason_until, holds_of};
 use decider::{Decider, Decision, Trace, Untraced};
 use std::alloc::{AllocError, Global};
 use std::time::{Clock, Duration};
@@ -77,13 +78,13 @@ impl<'a, V: Watch> ReasonWatch for RootWatch<'a, V> {
     }
 }
 
-/// Returns whether a reason is found why there is no cover, before the watch ends that. Where memory runs out none is found, and that is
-/// no error: a search may need less.
+/// Returns whether a reason is found why there is no cover, but for one by multipliers, which takes longest, before the watch ends that. Where
+/// memory runs out none is found, and that is no error: a search may need less.
 pub fn is_excluded<V: Watch>(alloc: Global, problem: &Problem, watch: &mut V) -> bool
     ensures { result ≡ true → first problem.now [] ≡ None }
 {
     let mut root = RootWatch { watch };
-    match find_reason_until(alloc, problem, &mut root) {
+    match find_short_reason_until(alloc, problem, &mut root) {
         // (for its clause, that a search finds nothing then: the finder has tested the reason already)
         Ok(Some(reason)) => holds_of(problem, &reason),
         Ok(None) => is_excluded_by_use(alloc, problem, &mut root),
@@ -115,6 +116,27 @@ pub fn search_until<V: Watch>(
     searched(alloc, &Tables::build(alloc, problem)?, watch, &mut Untraced)
 }
 
+/// Searches the problem for `SHORT` at most, and looks for a reason meanwhile. Returns the answer, or none where neither came to an end. The only
+/// error is out of memory.
+fn searched_shortly<C: Clock>(
+    clock: &C,
+    alloc: Global,
+    tables: &Tables<'_>,
+) -> Result<Option<Answer>, AllocError>
+    ensures answer { IfOk result (λ found. IfSome found
+        (λ answer. answer ≡ answer_by tables.now (first tables.now []))) }
+    ensures order { IfOk result (λ found. IfSome found (IsWritable tables.now)) }
+{
+    let problem = tables.problem();
+    let stopwatch = Stopwatch::new(clock);
+    let mut short = ShortWatch { clock, stopwatch };
+    let mut looking = LookingWatch::new(clock, alloc, problem, &mut short, EARLY);
+    if let Some(answer) = searched(alloc, tables, &mut looking, &mut Untraced)? {
+        return Ok(Some(answer));
+    }
+    Ok(looking.answer(problem))
+}
+
 /// Returns the answer of a problem: its first cover, with its options in the order of the file, or that there is none; no answer where the
 /// watch stopped the search, or it and the search for a reason. A search that lasts longer than a tenth of a second is begun again under
 /// the watch, if no reason is found that excludes a cover; from then on a walk to the first cover that asks a learner has half of the time.
@@ -130,9 +152,7 @@ pub fn answer_until<V: Watch, C: Clock>(
     ensures order { IfOk result (λ found. IfSome found (IsWritable problem.now)) }
 {
     let tables = Tables::build(alloc, problem)?;
-    let stopwatch = Stopwatch::new(clock);
-    let mut short = ShortWatch { clock, stopwatch };
-    if let Some(answer) = searched(alloc, &tables, &mut short, &mut Untraced)? {
+    if let Some(answer) = searched_shortly(clock, alloc, &tables)? {
         return Ok(Some(answer));
     }
     if is_excluded(alloc, problem, watch) {

@@ -14,6 +14,7 @@ mod forecast;
 mod input;
 mod line_timer;
 mod lines;
+mod looking;
 mod progress;
 mod progress_log;
 mod progress_watch;

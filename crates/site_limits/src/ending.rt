@@ -62,7 +62,7 @@ impl Ending {
     /// wait for it for ever.
     pub fn await_registry<R: Clock>(&self, rt: &R) -> bool {
         for _look in 0..LOOKS {
-            if self.has_registry.load(Ordering::SeqCst) || self.is_over(rt) {
+            if self.has_registry.load(Ordering::SeqCst) || self.has_come(rt) {
                 break;
             }
             thread::sleep(rt, Duration::from_micros(NAP));
@@ -81,7 +81,7 @@ impl Ending {
     }
 
     /// Whether the run has ended, by a site that can't go on or by its limit.
-    pub fn is_over<R: Clock>(&self, rt: &R) -> bool {
+    pub fn has_come<R: Clock>(&self, rt: &R) -> bool {
         self.raised.load(Ordering::SeqCst) || self.is_late(rt)
     }
 
@@ -97,7 +97,7 @@ impl Ending {
     /// Whether the run has lasted as long as it may. The clock is read only in a limited run.
     pub fn is_late<R: Clock>(&self, rt: &R) -> bool {
         match &self.timer {
-            Some(timer) => timer.is_over(rt),
+            Some(timer) => timer.has_passed(rt),
             None => false,
         }
     }
@@ -112,7 +112,7 @@ struct Timer {
 
 impl Timer {
     /// Whether the limit has passed, or the clock can't be read any more.
-    fn is_over<R: Clock>(&self, rt: &R) -> bool {
+    fn has_passed<R: Clock>(&self, rt: &R) -> bool {
         match self.began.elapsed(rt) {
             Ok(elapsed) => elapsed >= self.limit,
             // (else a run that was to be limited would have no limit)

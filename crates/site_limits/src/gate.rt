@@ -1,155 +1,21 @@
-use crate::pace::Quota;
-use crate::site_end::SiteEnd;
-use brancher::{Finding, Watch};
+use crate::follower::Follower;
 use spawn_frame::Job;
-use std::sync::atomic::{AtomicBool, Ordering};
 
-/// May hold a site's workers back, and follows what the sites of a run do. The program's gates let all pass; those of tests bring
-/// workers into an order.
+/// May hold a site's workers back, so that tests bring them into an order. Where nothing else is said, it lets all pass.
 pub trait Gate {
     /// Whether the worker may post the result of the job now; it is asked again each turn until it may. The call may wait.
-    fn pass(&self, worker: u8, job: &Job) -> bool;
-
-    /// The worker has posted the result of the job.
-    fn posted(&self, worker: u8, job: &Job);
-
-    /// A worker begins to search a prefix.
-    fn begun(&self) {}
-
-    /// A worker that searches a prefix of this length has chosen these options, and made so many visits. Called once in 1,024 visits at
-    /// most.
-    fn seen(&self, _length: usize, _chosen: &[u16], _visits: u64) {}
-
-    /// A worker has searched a prefix, with so many visits.
-    fn searched(&self, _finding: &Finding, _visits: u64) {}
-
-    /// A site's book has so many entries, of so many at most.
-    fn recorded(&self, _entries: u64, _most: u64) {}
-
-    /// The run ends with the site of this node, which ended so.
-    fn ended(&self, _node: u8, _end: &SiteEnd) {}
-
-    /// All sites have ended, and there is an answer or none.
-    fn finished(&self, _is_answered: bool) {}
-}
-
-/// The gate that lets all pass.
-#[derive(Clone, Copy, Debug, PartialEq, Eq)]
-pub struct Open;
-
-impl Gate for Open {
     fn pass(&self, _worker: u8, _job: &Job) -> bool {
         true
     }
 
+    /// The worker has posted the result of the job.
     fn posted(&self, _worker: u8, _job: &Job) {}
 }
 
-/// A search that keeps states goes on at its limit, up to twice as many visits, if so many times as many are gone as it has made; at each
-/// limit behind it has to be twice as many times. So it goes on where states repeat in all that it searches, not where some do.
-const MANY: u64 = 2;
+/// Lets all pass, and follows nothing.
+#[derive(Clone, Copy, Debug, PartialEq, Eq)]
+pub struct Open;
 
-/// Stops a worker's search once its site is to end, or, if it keeps states, once it has made so many visits as it may; shows it to the gate
-/// meanwhile.
-#[derive(Drop)]
-pub struct SearchWatch<'a, G: Gate> {
-    /// The site is to end.
-    over: &'a AtomicBool,
-    gate: &'a G,
-    /// How long the prefix is that is searched.
-    length: usize,
-    /// With how much fuel it is searched.
-    fuel: u64,
-    /// How many visits it may make if it keeps states.
-    quota: Quota,
-    /// At its limit it goes on if so many times as many visits are gone as it has made.
-    many: u64,
-    /// How many visits it has made if it keeps states.
-    made: u64,
-    /// How much fuel was left then.
-    left: u64,
-    /// It was stopped because the site is to end.
-    is_over: bool,
-}
+impl Gate for Open {}
 
-impl<'a, G: Gate> SearchWatch<'a, G> {
-    /// The watch of the search of a prefix of this length, with so much fuel and this quota. It stops it once `over` is raised.
-    pub fn new(
-        over: &'a AtomicBool,
-        gate: &'a G,
-        length: usize,
-        fuel: u64,
-        quota: Quota,
-    ) -> SearchWatch<'a, G> {
-        SearchWatch {
-            over,
-            gate,
-            length,
-            fuel,
-            quota,
-            many: MANY,
-            made: 0,
-            left: fuel,
-            is_over: false,
-        }
-    }
-
-    /// How many visits a search that keeps states has made.
-    pub fn visits(&self) -> u64 {
-        self.made
-    }
-
-    /// How many visits are gone by what a search that keeps states has made.
-    pub fn gone(&self) -> u64 {
-        self.fuel.saturating_sub(self.left)
-    }
-
-    /// Whether it was stopped because the site is to end.
-    pub fn is_over(&self) -> bool {
-        self.is_over
-    }
-
-    /// Whether the search may make no more visits. Where it saves many its quota grows.
-    fn is_at_limit(&mut self, left: u64) -> bool {
-        if self.wait() > 0 {
-            return false;
-        }
-        let gone = self.fuel.saturating_sub(left);
-        if self.quota.visits < self.quota.most && gone > self.made.saturating_mul(self.many) {
-            self.quota.visits = self.quota.visits.saturating_mul(2).min(self.quota.most);
-            self.many = self.many.saturating_mul(2);
-            return false;
-        }
-        true
-    }
-}
-
-impl<'a, G: Gate> Watch for SearchWatch<'a, G> {
-    ghost use Rattle.std.specs.Prelude.{true};
-
-    ghost may_stop = { true };
-
-    fn look(&mut self, chosen: &[u16], left: u64) -> bool {
-        // (stopped by its quota, not by its site: what it came to so far is posted, so is_over stays as it is)
-        if self.is_at_limit(left) {
-            return true;
-        }
-        // (a search that keeps no states never calls made: all its visits are in the fuel that is gone)
-        let visits = self.made.saturating_add(self.left.saturating_sub(left));
-        self.gate.seen(self.length, chosen, visits);
-        // (nothing else is read by this flag, and one look more does no harm, so it needs no order)
-        self.is_over = self.over.load(Ordering::Relaxed);
-        self.is_over
-    }
-
-    #[inline(always)]
-    fn wait(&self) -> u64 {
-        self.quota.visits.saturating_sub(self.made)
-    }
-
-    #[inline(always)]
-    fn made(&mut self, visits: u64, left: u64) {
-        self.made = self.made.saturating_add(visits);
-        self.left = left;
-    }
-}
+impl Follower for Open {}

@@ -4,20 +4,24 @@
 
 mod end_cause;
 mod ending;
+mod follower;
 mod gate;
 mod hunger;
 mod pace;
 mod plan;
+mod search_watch;
 mod site_end;
 mod timing;
 mod turn;
 
 pub use end_cause::EndCause;
 pub use ending::Ending;
-pub use gate::{Gate, Open, SearchWatch};
+pub use follower::Follower;
+pub use gate::{Gate, Open};
 pub use hunger::Hunger;
 pub use pace::{Pace, Quota};
 pub use plan::Plan;
+pub use search_watch::SearchWatch;
 pub use site_end::SiteEnd;
 pub use timing::Timing;
 pub use turn::{Limits, Turn};

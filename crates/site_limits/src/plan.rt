@@ -1,6 +1,7 @@
 use crate::timing::Timing;
+use std::time::Duration;
 
-/// How a site works.
+/// How a run goes, and how its sites work.
 #[derive(Clone, Copy, Debug, PartialEq, Eq)]
 pub struct Plan {
     /// How many workers a node has, from 1 to 8.
@@ -17,4 +18,8 @@ pub struct Plan {
     pub timing: Timing,
     /// How many entries the book of a site may have, at least 1.
     pub entries: u64,
+    /// How often node 1 restarts.
+    pub restarts: u8,
+    /// How long the run may last, if it is limited.
+    pub limit: Option<Duration>,
 }

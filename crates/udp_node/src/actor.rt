@@ -9,15 +9,15 @@ use crate::shared::Shared;
 use node_core::{Core, Event, Reply};
 use packet_wire::{Body, Packet, write_packet};
 use run_book::{CellName, Parcel, Pass, Run, Step};
-use site_limits::Gate;
+use site_limits::{Follower, Gate};
 use std::alloc::{AllocError, Global};
 use std::sync::Wait;
 
 /// A thread that acts at a site: its seat with the receipts, and its way into the outbox.
 #[derive(Drop)]
-pub struct Actor<'a, J: Run, C: Core + Drop, N: CellName, G: Gate> {
+pub struct Actor<'a, J: Run, C: Core + Drop, N: CellName, H: Gate + Follower> {
     /// What the threads of the site share.
-    pub shared: &'a Shared<'a, J, C, N, G>,
+    pub shared: &'a Shared<'a, J, C, N, H>,
     /// Its seat and receipts.
     receipts: SeatReceipts<N>,
     /// Its right to put parcels into the outbox.
@@ -27,15 +27,15 @@ pub struct Actor<'a, J: Run, C: Core + Drop, N: CellName, G: Gate> {
     ghost here: { pass.outbox ≡ shared.now.outbox.now },
 }
 
-impl<'a, J: Run, C: Core + Drop, N: CellName, G: Gate> Actor<'a, J, C, N, G> {
+impl<'a, J: Run, C: Core + Drop, N: CellName, H: Gate + Follower> Actor<'a, J, C, N, H> {
     /// Returns an actor that hasn't acted so far. The only error is that no seats are left.
     pub fn new<R: Wait>(
         rt: &R,
-        shared: &'a Shared<'a, J, C, N, G>,
-    ) -> Result<Actor<'a, J, C, N, G>, AllocError> {
+        shared: &'a Shared<'a, J, C, N, H>,
+    ) -> Result<Actor<'a, J, C, N, H>, AllocError> {
         Ok(Actor {
             shared,
-            receipts: SeatReceipts::new(rt, shared.alloc, shared.cell)?,
+            receipts: SeatReceipts::new(rt, shared.context.alloc, shared.cell)?,
             pass: shared.outbox.pass(),
             losses: 0,
         })
@@ -57,7 +57,8 @@ impl<'a, J: Run, C: Core + Drop, N: CellName, G: Gate> Actor<'a, J, C, N, G> {
         let step = self.receipts.act(rt, self.shared.cell, event)?;
         let shared = self.shared;
         shared
-            .gate
+            .context
+            .hooks
             .recorded(self.receipts.entries(), shared.plan.entries);
         self.signal(&step, stirs);
         if !is_again && step.packets().iter().any(needs_answer) {
@@ -100,7 +101,7 @@ impl<'a, J: Run, C: Core + Drop, N: CellName, G: Gate> Actor<'a, J, C, N, G> {
     fn put<R: Wait>(&mut self, rt: &R, packet: &Packet)
         requires { is_well_formed packet.now ≡ true }
     {
-        let is_put = match parcel_of(self.shared.alloc, packet) {
+        let is_put = match parcel_of(self.shared.context.alloc, packet) {
             Ok(parcel) => self.shared.outbox.put(rt, &mut self.pass, parcel).is_ok(),
             Err(AllocError) => false,
         };

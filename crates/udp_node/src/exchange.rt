@@ -51,12 +51,12 @@ impl<J: Run> Exchange<J> {
         for (number, inbox) in self.inboxes.iter().enumerate() {
             if number != usize::from(from) {
                 if let Ok(copy) = Vec::from_slice(alloc, prefix) {
-                    let told = BarrenPrefix {
+                    let barren_prefix = BarrenPrefix {
                         prefix: Numbers::from_vec(copy),
                         count,
                         run: PhantomData,
                     };
-                    let _full = inbox.push(rt, told);
+                    let _full = inbox.push(rt, barren_prefix);
                 }
             }
         }

@@ -3,6 +3,7 @@
 
 mod actor;
 mod barren_prefix;
+mod context;
 mod entered_gifts;
 mod exchange;
 mod few_visits;
@@ -15,15 +16,14 @@ mod node_end;
 mod own_time;
 mod receiver;
 mod run;
-mod run_plan;
 mod savings;
 mod schedule;
 mod seat_receipts;
 mod sender;
 mod shared;
 mod signals;
-mod site_context;
 mod site_run;
+mod turns;
 mod worker;
 
 pub use actor::asks_in_vain;
@@ -32,11 +32,10 @@ pub use node::{run_node, run_root};
 pub use node_end::NodeEnd;
 pub use own_time::OwnTime;
 pub use run::{RunEnd, run_sites};
-pub use run_plan::RunPlan;
 pub use savings::{Savings, Shown};
 pub use schedule::Schedule;
 pub use seat_receipts::SeatReceipts;
 pub use signals::Signals;
-pub use site_limits::{EndCause, Gate, Hunger, Open, Pace, Plan, Quota, SiteEnd, Timing};
+pub use site_limits::{EndCause, Follower, Gate, Hunger, Open, Pace, Plan, Quota, SiteEnd, Timing};
 pub use site_network::{Link, LinkFault, MemoryLink, Sockets, UdpLink, Wires, bound};
 pub use worker::room_for;

@@ -5,30 +5,27 @@ ghost use Rattle.std.specs.Vec.{vec_capacity};
 ghost use Rattle.site_limits.specs.declared.end_cause.EndCause.TheVariants.{Memory};
 
 use crate::actor::Actor;
+use crate::context::Context;
 use crate::exchange::Exchange;
-use crate::incarnation_plan::IncarnationPlan;
 use crate::node_end::NodeEnd;
-use crate::receiver::Receiver;
+use crate::receiver::{Receiver, ReceivingThread};
 use crate::schedule::Schedule;
 use crate::seat_receipts::SeatReceipts;
 use crate::sender::{Sender, Sent, send_all};
 use crate::shared::Shared;
 use crate::signals::Signals;
-use crate::site_context::SiteContext;
 use crate::worker::Worker;
 use brancher::Tables;
 use cover_problem::Problem;
 use node_core::Core;
 use run_book::{CellName, Outbox, Run, SiteCell};
-use site_limits::{EndCause, Ending, Gate, Limits, Open, Plan, SiteEnd, Turn};
+use site_limits::{EndCause, Ending, Follower, Gate, Limits, Open, Plan, SiteEnd};
 use site_network::Link;
 use std::alloc::{AllocError, Global};
+use std::marker::PhantomData;
 use std::sync::Wait;
 use std::thread::{self, Threads};
-use std::time::{Clock, Duration};
-
-/// How long a thread waits where memory ran out, in milliseconds.
-const SHORTAGE: u64 = 1;
+use std::time::Clock;
 
 /// What a thread is for.
 #[derive(Drop)]
@@ -52,16 +49,23 @@ impl<L: Link> Task<L> {
 
 /// A thread of a site that acts, from its start to its end.
 #[derive(Drop)]
-struct ActingThread<'a, J: Run, C: Core + Drop, N: CellName, L: Link, G: Gate> {
+struct ActingThread<'a, J: Run, C: Core + Drop, N: CellName, L: Link, H: Gate + Follower> {
     task: Task<L>,
-    actor: Actor<'a, J, C, N, G>,
+    actor: Actor<'a, J, C, N, H>,
     turns: u64,
     cause: EndCause,
 }
 
-impl<'a, J: Run, C: Core + Drop, N: CellName, L: Link, G: Gate> ActingThread<'a, J, C, N, L, G> {
+impl<'a, J: Run, C: Core + Drop, N: CellName, L: Link, H: Gate + Follower> ActingThread<
+    'a,
+    J,
+    C,
+    N,
+    L,
+    H,
+> {
     /// A thread before its start.
-    fn new(task: Task<L>, actor: Actor<'a, J, C, N, G>) -> ActingThread<'a, J, C, N, L, G> {
+    fn new(task: Task<L>, actor: Actor<'a, J, C, N, H>) -> ActingThread<'a, J, C, N, L, H> {
         ActingThread {
             task,
             actor,
@@ -73,45 +77,36 @@ impl<'a, J: Run, C: Core + Drop, N: CellName, L: Link, G: Gate> ActingThread<'a,
     /// Runs the thread to its end.
     fn run<R: Wait + Clock>(&mut self, rt: &R) {
         let shared = self.actor.shared;
-        let mut left = Limits::new(shared.plan.turns);
+        let mut limits = Limits::new(shared.plan.turns);
         self.cause = match &mut self.task {
-            Task::Work(number) => work(rt, &mut self.actor, *number, &mut left),
-            Task::Receive(receiver) => receive(rt, &mut self.actor, receiver, &mut left),
+            Task::Work(number) => work(rt, &mut self.actor, *number, &mut limits),
+            Task::Receive(receiver) => receive(rt, &mut self.actor, receiver, &mut limits),
         };
-        self.turns = left.taken();
+        self.turns = limits.taken();
         if self.task.ends_site(self.cause) {
-            shared.signals.end();
+            shared.signals.stop();
         }
         shared.signals.leave();
     }
 }
 
-/// Counts a turn, and waits a little if memory ran out, so that others may give some back. Returns the cause if the thread ends by it.
-fn noted<R: Wait + Clock>(rt: &R, left: &mut Limits, turn: Turn) -> Option<EndCause> {
-    if turn == Turn::Starved {
-        thread::sleep(rt, Duration::from_millis(SHORTAGE));
-    }
-    left.note(turn)
-}
-
 /// Runs a worker to its end. It begins its turns once a thread of each kind has begun.
-fn work<J: Run, C: Core + Drop, N: CellName, G: Gate, R: Wait + Clock>(
+fn work<J: Run, C: Core + Drop, N: CellName, H: Gate + Follower, R: Wait + Clock>(
     rt: &R,
-    actor: &mut Actor<'_, J, C, N, G>,
+    actor: &mut Actor<'_, J, C, N, H>,
     number: u8,
-    left: &mut Limits,
+    limits: &mut Limits,
 ) -> EndCause {
     let shared = actor.shared;
     // (a thread that is only started once the others have ended must not count as begun, or the site would seem manned)
-    if shared.is_over(rt) {
-        return shared.ending.cause(rt);
+    if shared.is_to_end(rt) {
+        return shared.context.ending.cause(rt);
     }
     shared.signals.begin_working();
     shared.muster(rt);
-    let node = shared.cell.site().node;
-    match Worker::new(shared.alloc, shared.tables, shared.plan, node, number) {
+    match Worker::new(rt, actor, number) {
         Ok(mut worker) => {
-            let cause = take_turns(rt, actor, &mut worker, left);
+            let cause = worker.run(limits);
             // (the others may have left all jobs to this worker, which does none from here on)
             shared.signals.work_together(number);
             cause
@@ -120,49 +115,25 @@ fn work<J: Run, C: Core + Drop, N: CellName, G: Gate, R: Wait + Clock>(
     }
 }
 
-/// The turns of a worker that has begun.
-fn take_turns<'a, J: Run, C: Core + Drop, N: CellName, G: Gate, R: Wait + Clock>(
-    rt: &R,
-    actor: &mut Actor<'_, J, C, N, G>,
-    worker: &mut Worker<'a, J>,
-    left: &mut Limits,
-) -> EndCause {
-    // (a range in place of a loop without end, so that the prover sees it end; the limits end it long before)
-    for _turn in 0..u64::MAX {
-        if left.is_spent() {
-            break;
-        }
-        let turn = worker.turn(rt, actor);
-        if let Some(cause) = noted(rt, left, turn) {
-            return cause;
-        }
-    }
-    EndCause::Turns
-}
-
 /// Runs the thread that receives to its end. It begins its turns once a thread of each kind has begun.
-fn receive<J: Run, C: Core + Drop, N: CellName, L: Link, G: Gate, R: Wait + Clock>(
+fn receive<J: Run, C: Core + Drop, N: CellName, L: Link, H: Gate + Follower, R: Wait + Clock>(
     rt: &R,
-    actor: &mut Actor<'_, J, C, N, G>,
+    actor: &mut Actor<'_, J, C, N, H>,
     receiver: &mut Receiver<L>,
-    left: &mut Limits,
+    limits: &mut Limits,
 ) -> EndCause {
     let shared = actor.shared;
-    if shared.is_over(rt) {
-        return shared.ending.cause(rt);
+    if shared.is_to_end(rt) {
+        return shared.context.ending.cause(rt);
     }
     shared.signals.begin_receiving();
     shared.muster(rt);
-    for _turn in 0..u64::MAX {
-        if left.is_spent() {
-            break;
-        }
-        let turn = receiver.turn(rt, actor);
-        if let Some(cause) = noted(rt, left, turn) {
-            return cause;
-        }
-    }
-    EndCause::Turns
+    let mut receiving = ReceivingThread {
+        rt,
+        actor,
+        receiver,
+    };
+    receiving.run(limits)
 }
 
 /// Runs the threads of a node to their ends: its workers, one that receives and one that sends. All seats come back, unless memory
@@ -174,7 +145,7 @@ pub fn run_node<
     C: Core + Drop + Send,
     N: CellName + Send + Sync,
     L: Link + Send,
-    G: Gate + Sync,
+    H: Gate + Follower + Sync,
     R: Threads + Wait + Clock + Sync,
 >(
     rt: &R,
@@ -183,7 +154,7 @@ pub fn run_node<
     problem: &Problem,
     link: L,
     plan: Plan,
-    gate: &G,
+    hooks: &H,
 ) -> NodeEnd<N>
     requires { problem.now ≡ J.run.problem }
     ensures all { (vec_len result.seats ≡ plan.workers + 1) ⊎ (result.end.cause ≡ Memory) }
@@ -194,13 +165,14 @@ pub fn run_node<
         return NodeEnd::starved(alloc);
     };
     let ending = Ending::unlimited();
-    let context = SiteContext {
+    let context = Context {
         tables: &tables,
-        gate,
+        hooks,
         ending: &ending,
         alloc,
+        run: PhantomData,
     };
-    run_threads(rt, cell, link, IncarnationPlan::only(plan), context)
+    run_threads(rt, &context, cell, plan, link)
 }
 
 /// Runs the threads of the registry to their ends: one that receives and one that sends. The seat comes back, unless memory ran out
@@ -229,13 +201,14 @@ pub fn run_root<
     let plan = Plan { workers: 0, ..plan };
     let tables = Tables::of_links(problem);
     let ending = Ending::unlimited();
-    let context = SiteContext {
+    let context = Context {
         tables: &tables,
-        gate: &Open,
+        hooks: &Open,
         ending: &ending,
         alloc,
+        run: PhantomData,
     };
-    run_threads(rt, cell, link, IncarnationPlan::only(plan), context)
+    run_threads(rt, &context, cell, plan, link)
 }
 
 /// Runs the threads of a site in one of its incarnations, as `run_node` and `run_root` do, and ends them where the run ends. A plan without
@@ -245,27 +218,14 @@ pub(crate) fn run_threads<
     C: Core + Drop + Send,
     N: CellName + Send + Sync,
     L: Link + Send,
-    G: Gate + Sync,
+    H: Gate + Follower + Sync,
     R: Threads + Wait + Clock + Sync,
->(
-    rt: &R,
-    cell: &SiteCell<J, C, N>,
-    link: L,
-    incarnation_plan: IncarnationPlan,
-    context: SiteContext<'_, G>,
-) -> NodeEnd<N>
-    requires { context.tables.now ≡ J.run.problem }
-    ensures all { (vec_len result.seats ≡ incarnation_plan.plan.workers + 1) ⊎ (result.end.cause ≡ Memory) }
-    ensures none { (vec_len result.seats ≡ incarnation_plan.plan.workers + 1)
+>(rt: &R, context: &Context<'_, J, H>, cell: &SiteCell<J, C, N>, plan: Plan, link: L) -> NodeEnd<N>
+    ensures all { (vec_len result.seats ≡ plan.workers + 1) ⊎ (result.end.cause ≡ Memory) }
+    ensures none { (vec_len result.seats ≡ plan.workers + 1)
         ⊎ ((vec_len result.seats ≡ 0) × (result.end.turns ≡ 0)) }
 {
-    let IncarnationPlan { plan, is_last } = incarnation_plan;
-    let SiteContext {
-        tables,
-        gate,
-        ending,
-        alloc,
-    } = context;
+    let alloc = context.alloc;
     // (one handle to send by and one to receive by, so that neither thread waits for the other)
     let (Ok((outbox, drain)), Ok(twin)) = (Outbox::new(alloc), link.twin()) else {
         return NodeEnd::starved(alloc);
@@ -276,16 +236,12 @@ pub(crate) fn run_threads<
     // (the one more is the thread that receives; the one that sends puts nothing into the outbox)
     let signals = Signals::new(u64::from(plan.workers) + 1, plan.workers > 0);
     let shared = Shared {
+        context,
         cell,
-        tables,
         outbox: &outbox,
-        gate,
         signals: &signals,
         exchange: &exchange,
-        ending,
         plan,
-        is_last,
-        alloc,
     };
     let Ok(crew) = Crew::new(rt, &shared, twin, plan.workers) else {
         return NodeEnd::starved(alloc);
@@ -302,8 +258,8 @@ pub(crate) fn run_threads<
 
 /// The threads of a site that act, with the room for what comes of them.
 #[derive(Drop)]
-struct Crew<'a, J: Run, C: Core + Drop, N: CellName, L: Link, G: Gate> {
-    threads: Vec<ActingThread<'a, J, C, N, L, G>>,
+struct Crew<'a, J: Run, C: Core + Drop, N: CellName, L: Link, H: Gate + Follower> {
+    threads: Vec<ActingThread<'a, J, C, N, L, H>>,
     seats: Vec<SeatReceipts<N>>,
     workers: u8,
     ghost many: { vec_len threads ≡ workers + 1 },
@@ -311,19 +267,19 @@ struct Crew<'a, J: Run, C: Core + Drop, N: CellName, L: Link, G: Gate> {
     ghost room: { vec_len threads ≤ vec_capacity seats },
 }
 
-impl<'a, J: Run, C: Core + Drop, N: CellName, L: Link, G: Gate> Crew<'a, J, C, N, L, G> {
+impl<'a, J: Run, C: Core + Drop, N: CellName, L: Link, H: Gate + Follower> Crew<'a, J, C, N, L, H> {
     /// The threads before their start: the one that receives, and so many workers. The only error is out of memory, or that no
     /// seats are left.
     fn new<R: Wait>(
         rt: &R,
-        shared: &'a Shared<'a, J, C, N, G>,
+        shared: &'a Shared<'a, J, C, N, H>,
         twin: L,
         workers: u8,
-    ) -> Result<Crew<'a, J, C, N, L, G>, AllocError>
+    ) -> Result<Crew<'a, J, C, N, L, H>, AllocError>
         ensures { IfOk result (λ crew. crew.workers ≡ workers) }
     {
         // (taken before a thread acts: later a refusal would lose seats, and with them the site's book)
-        let seats = Vec::with_capacity(shared.alloc, usize::from(workers) + 1)?;
+        let seats = Vec::with_capacity(shared.context.alloc, usize::from(workers) + 1)?;
         let threads = threads_for(rt, shared, twin, workers)?;
         Ok(Crew {
             threads,
@@ -333,13 +289,13 @@ impl<'a, J: Run, C: Core + Drop, N: CellName, L: Link, G: Gate> Crew<'a, J, C, N
     }
 
     /// Runs them to their ends.
-    fn run<R: Threads + Wait + Clock + Sync>(self, rt: &R) -> Crew<'a, J, C, N, L, G>
+    fn run<R: Threads + Wait + Clock + Sync>(self, rt: &R) -> Crew<'a, J, C, N, L, H>
     where
         J: Send + Sync,
         C: Send,
         N: Send + Sync,
         L: Send,
-        G: Sync,
+        H: Sync,
         ensures { result.workers ≡ self.entry.workers }
     {
         let Crew {
@@ -362,9 +318,9 @@ fn run_acting<
     C: Core + Drop + Send,
     N: CellName + Send + Sync,
     L: Link + Send,
-    G: Gate + Sync,
+    H: Gate + Follower + Sync,
     R: Threads + Wait + Clock + Sync,
->(rt: &R, threads: &mut Vec<ActingThread<'_, J, C, N, L, G>>)
+>(rt: &R, threads: &mut Vec<ActingThread<'_, J, C, N, L, H>>)
     ensures { vec_len threads.new ≡ vec_len threads.old }
 {
     let count = threads.len();
@@ -383,17 +339,17 @@ fn run_acting<
 
 /// The threads before their start: the one that receives, and so many workers. The only error is out of memory, or that no seats
 /// are left.
-fn threads_for<'a, J: Run, C: Core + Drop, N: CellName, L: Link, G: Gate, R: Wait>(
+fn threads_for<'a, J: Run, C: Core + Drop, N: CellName, L: Link, H: Gate + Follower, R: Wait>(
     rt: &R,
-    shared: &'a Shared<'a, J, C, N, G>,
+    shared: &'a Shared<'a, J, C, N, H>,
     twin: L,
     workers: u8,
-) -> Result<Vec<ActingThread<'a, J, C, N, L, G>>, AllocError>
+) -> Result<Vec<ActingThread<'a, J, C, N, L, H>>, AllocError>
     ensures { IfOk result (λ threads. vec_len threads ≡ workers + 1) }
 {
-    let mut threads = Vec::with_capacity(shared.alloc, usize::from(workers) + 1)?;
-    let schedule = Schedule::new(shared.plan.timing, shared.plan.turns, shared.is_last);
-    let receiver = Receiver::new(shared.alloc, twin, schedule);
+    let mut threads = Vec::with_capacity(shared.context.alloc, usize::from(workers) + 1)?;
+    let schedule = Schedule::new(shared.plan.timing, shared.plan.turns, shared.is_last());
+    let receiver = Receiver::new(shared.context.alloc, twin, schedule);
     add_thread(rt, shared, &mut threads, Task::Receive(receiver))?;
     for worker in 0..workers {
         add_thread(rt, shared, &mut threads, Task::Work(worker))?;
@@ -402,10 +358,10 @@ fn threads_for<'a, J: Run, C: Core + Drop, N: CellName, L: Link, G: Gate, R: Wai
 }
 
 /// Adds a thread before its start. The only error is out of memory, or that no seats are left.
-fn add_thread<'a, J: Run, C: Core + Drop, N: CellName, L: Link, G: Gate, R: Wait>(
+fn add_thread<'a, J: Run, C: Core + Drop, N: CellName, L: Link, H: Gate + Follower, R: Wait>(
     rt: &R,
-    shared: &'a Shared<'a, J, C, N, G>,
-    threads: &mut Vec<ActingThread<'a, J, C, N, L, G>>,
+    shared: &'a Shared<'a, J, C, N, H>,
+    threads: &mut Vec<ActingThread<'a, J, C, N, L, H>>,
     task: Task<L>,
 ) -> Result<(), AllocError>
     ensures { OnOk result (vec_len threads.new ≡ vec_len threads.old + 1) }
@@ -416,8 +372,8 @@ fn add_thread<'a, J: Run, C: Core + Drop, N: CellName, L: Link, G: Gate, R: Wait
 }
 
 /// Returns how the threads of a site ended, and whether there was one of each kind.
-fn end_of<J: Run, C: Core + Drop, N: CellName, L: Link, G: Gate>(
-    crew: Crew<'_, J, C, N, L, G>,
+fn end_of<J: Run, C: Core + Drop, N: CellName, L: Link, H: Gate + Follower>(
+    crew: Crew<'_, J, C, N, L, H>,
     sent: Sent,
     is_manned: bool,
 ) -> NodeEnd<N>
@@ -445,9 +401,9 @@ fn end_of<J: Run, C: Core + Drop, N: CellName, L: Link, G: Gate>(
 }
 
 /// The end of a site with that of one thread more.
-fn with_thread<J: Run, C: Core + Drop, N: CellName, L: Link, G: Gate>(
+fn with_thread<J: Run, C: Core + Drop, N: CellName, L: Link, H: Gate + Follower>(
     end: NodeEnd<N>,
-    acting_thread: ActingThread<'_, J, C, N, L, G>,
+    acting_thread: ActingThread<'_, J, C, N, L, H>,
 ) -> NodeEnd<N>
     requires { vec_len end.seats < vec_capacity end.seats }
     ensures one { vec_len result.seats ≡ vec_len end.seats + 1 }

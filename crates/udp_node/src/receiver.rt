@@ -7,12 +7,12 @@ use crate::actor::Actor;
 use crate::entered_gifts::EnteredGifts;
 use crate::own_time::OwnTime;
 use crate::schedule::Schedule;
-use crate::shared::Shared;
+use crate::turns::noted;
 use crate::worker::{after, after_refusal};
 use node_core::{Core, Event};
 use packet_wire::{Body, Packet, WireFault, read_packet};
 use run_book::{CellName, Run};
-use site_limits::{EndCause, Gate, Turn};
+use site_limits::{EndCause, Follower, Gate, Limits, Turn};
 use site_network::{Link, LinkFault};
 use std::alloc::Global;
 use std::sync::Wait;
@@ -67,78 +67,6 @@ impl<L: Link> Receiver<L> {
         (self.dropped, self.link.failures())
     }
 
-    /// A turn: greets the registry now and then, receives, and says again what may be lost.
-    pub fn turn<J: Run, C: Core + Drop, N: CellName, G: Gate, R: Wait + Clock>(
-        &mut self,
-        rt: &R,
-        actor: &mut Actor<'_, J, C, N, G>,
-    ) -> Turn {
-        self.now = self.time.look(rt);
-        if let Some(cause) = self.ended(rt, actor.shared) {
-            return self.end_by(cause);
-        }
-        let greeted = self.greet(rt, actor);
-        if greeted != Turn::Used {
-            return greeted;
-        }
-        match self.receive(rt, actor) {
-            Turn::Used => self.say_again(rt, actor, Turn::Used),
-            Turn::Waited => self.say_again(rt, actor, Turn::Waited),
-            turn => turn,
-        }
-    }
-
-    /// Why the thread ends before it receives once more, if it does.
-    fn ended<J: Run, C: Core + Drop, N: CellName, G: Gate, R: Wait + Clock>(
-        &self,
-        rt: &R,
-        shared: &Shared<'_, J, C, N, G>,
-    ) -> Option<EndCause> {
-        let is_spent = self.schedule.is_spent(self.now) || self.schedule.has_announced();
-        if is_spent || shared.signals.is_over() {
-            Some(EndCause::Turns)
-        } else if shared.ending.is_late(rt) {
-            Some(EndCause::Time)
-        } else {
-            None
-        }
-    }
-
-    /// Greets the registry, if it is time to: while workers search nothing else may be sent for long, and after a long silence registry
-    /// and nodes give up.
-    fn greet<J: Run, C: Core + Drop, N: CellName, G: Gate, R: Wait + Clock>(
-        &mut self,
-        rt: &R,
-        actor: &mut Actor<'_, J, C, N, G>,
-    ) -> Turn {
-        if actor.shared.cell.site().node == 0 || !self.schedule.greets(self.now) {
-            return Turn::Used;
-        }
-        after(actor.act(rt, Event::Greet))
-    }
-
-    /// Receives once, and looks whether the site can go on. Whether the run is over is read before the receive: the registry announces the
-    /// end first, so a receive that is empty after that shows that the node has received it, or never will.
-    fn receive<J: Run, C: Core + Drop, N: CellName, G: Gate, R: Wait + Clock>(
-        &mut self,
-        rt: &R,
-        actor: &mut Actor<'_, J, C, N, G>,
-    ) -> Turn {
-        let ending = actor.shared.ends_by(rt);
-        let mut buffer = [0; BUFFER];
-        let received = self.received(rt, &mut buffer);
-        let is_empty = received == Ok(None);
-        let turn = match received {
-            Ok(Some(bytes)) => self.hear(rt, actor, &buffer[..bytes]),
-            Ok(None) => nap(rt),
-            Err(LinkFault) => self.fail(),
-        };
-        match turn {
-            Turn::Used | Turn::Waited => self.or_lost(turn, ending, is_empty),
-            Turn::Starved | Turn::Ended(_) => turn,
-        }
-    }
-
     /// Receives once, and passes strangers' datagrams over, which a link brings without their bytes. Nothing comes of them but that they
     /// are counted: else a flood of them could use up the turns of the site, or keep it from what it does by itself.
     fn received<R: Wait>(&mut self, rt: &R, buffer: &mut [u8]) -> Result<Option<usize>, LinkFault>
@@ -166,90 +94,18 @@ impl<L: Link> Receiver<L> {
         }
     }
 
-    /// A datagram came: if it is a packet, it is delivered. One that is none takes no turn, and neither does one that brings only what was
-    /// entered: that may show the run going on, but each would be an entry of the book.
-    fn hear<J: Run, C: Core + Drop, N: CellName, G: Gate, R: Wait + Clock>(
-        &mut self,
-        rt: &R,
-        actor: &mut Actor<'_, J, C, N, G>,
-        bytes: &[u8],
-    ) -> Turn {
-        if bytes.len() >= BUFFER {
-            return self.drop_datagram();
-        }
-        let packet = match read_packet(actor.shared.alloc, bytes) {
-            Ok(packet) => packet,
-            // (the packet is lost, as it may be on its way: what needs an answer is said again)
-            Err(WireFault::Memory) => return Turn::Starved,
-            Err(_) => return self.drop_datagram(),
-        };
-        let site = actor.shared.cell.site();
-        if site.node == 0 || packet.from.node == 0 {
-            self.schedule.hear(self.now);
-        }
-        if self.entered.has_all(site, &packet) {
-            return Turn::Waited;
-        }
-        self.deliver(rt, actor, packet)
-    }
-
     /// Counts a datagram that is no packet.
     fn drop_datagram(&mut self) -> Turn {
         self.dropped = self.dropped.saturating_add(1);
         Turn::Waited
     }
 
-    /// Delivers a packet.
-    fn deliver<J: Run, C: Core + Drop, N: CellName, G: Gate, R: Wait + Clock>(
-        &mut self,
-        rt: &R,
-        actor: &mut Actor<'_, J, C, N, G>,
-        packet: Packet,
-    ) -> Turn
-        requires { is_well_formed packet ≡ true }
-    {
-        let is_end = matches!(packet.body, Body::Over);
-        let step = match actor.act(rt, Event::Deliver(packet)) {
-            Ok(step) => step,
-            Err(back) => return after_refusal(back.1),
-        };
-        // (noted only once it is entered: a packet that was refused has to be delivered when it is repeated)
-        if let Event::Deliver(packet) = step.event() {
-            self.entered.note(packet);
-        }
-        if is_end {
-            return Turn::Ended(EndCause::Over);
-        }
-        // (from here on only the end is announced, and receives of 4 to 8 milliseconds each would draw it out)
-        if !self.schedule.is_over() && tells_end(actor.shared.cell.site().node, step.packets()) {
-            self.schedule.end(self.now);
-            self.link.hasten();
-        }
-        Turn::Used
-    }
-
     /// What a turn came to; the thread ends where the site is to end by this cause, or nothing shows the run going on for long.
-    fn or_lost(&mut self, turn: Turn, ending: Option<EndCause>, is_empty: bool) -> Turn {
+    fn or_end(&mut self, turn: Turn, ending: Option<EndCause>, is_empty: bool) -> Turn {
         match ending {
             Some(cause) if self.schedule.ends(self.now, is_empty) => self.end_by(cause),
             _ if self.schedule.is_silent(self.now) => self.end_by(EndCause::Silence),
             _ => turn,
-        }
-    }
-
-    /// Says again what may be lost, if it is time to, after a turn that came to this.
-    fn say_again<J: Run, C: Core + Drop, N: CellName, G: Gate, R: Wait + Clock>(
-        &mut self,
-        rt: &R,
-        actor: &mut Actor<'_, J, C, N, G>,
-        turn: Turn,
-    ) -> Turn {
-        if !self.schedule.repeats(self.now, actor.shared.signals.said()) {
-            return turn;
-        }
-        match after(actor.act(rt, Event::Again)) {
-            Turn::Used | Turn::Waited => turn,
-            ended => ended,
         }
     }
 
@@ -260,6 +116,167 @@ impl<L: Link> Receiver<L> {
         } else {
             cause
         })
+    }
+}
+
+/// The thread that receives, with its handle and its way to act at the site.
+#[derive(Drop)]
+pub struct ReceivingThread<
+    'r,
+    't,
+    's,
+    'k,
+    J: Run,
+    C: Core + Drop,
+    N: CellName,
+    L: Link,
+    H: Gate + Follower,
+    R: Wait + Clock,
+> {
+    pub rt: &'r R,
+    pub actor: &'t mut Actor<'s, J, C, N, H>,
+    pub receiver: &'k mut Receiver<L>,
+}
+
+impl<
+    J: Run,
+    C: Core + Drop,
+    N: CellName,
+    L: Link,
+    H: Gate + Follower,
+    R: Wait + Clock,
+> ReceivingThread<'_, '_, '_, '_, J, C, N, L, H, R> {
+    /// Takes turns until one ends the thread, or these limits do.
+    pub fn run(&mut self, limits: &mut Limits) -> EndCause {
+        for _turn in 0..u64::MAX {
+            if limits.is_spent() {
+                break;
+            }
+            let turn = self.turn();
+            if let Some(cause) = noted(self.rt, limits, turn) {
+                return cause;
+            }
+        }
+        EndCause::Turns
+    }
+
+    /// A turn: greets the registry now and then, receives, and says again what may be lost.
+    fn turn(&mut self) -> Turn {
+        self.receiver.now = self.receiver.time.look(self.rt);
+        if let Some(cause) = self.ended() {
+            return self.receiver.end_by(cause);
+        }
+        let greeted = self.greet();
+        if greeted != Turn::Used {
+            return greeted;
+        }
+        match self.receive() {
+            Turn::Used => self.say_again(Turn::Used),
+            Turn::Waited => self.say_again(Turn::Waited),
+            turn => turn,
+        }
+    }
+
+    /// Why the thread ends before it receives once more, if it does.
+    fn ended(&self) -> Option<EndCause> {
+        let (shared, schedule) = (self.actor.shared, &self.receiver.schedule);
+        let is_spent = schedule.is_spent(self.receiver.now) || schedule.has_announced();
+        if is_spent || shared.signals.is_stopped() {
+            Some(EndCause::Turns)
+        } else if shared.context.ending.is_late(self.rt) {
+            Some(EndCause::Time)
+        } else {
+            None
+        }
+    }
+
+    /// Greets the registry, if it is time to: while workers search nothing else may be sent for long, and after a long silence registry
+    /// and nodes give up.
+    fn greet(&mut self) -> Turn {
+        let (node, now) = (self.actor.shared.cell.site().node, self.receiver.now);
+        if node == 0 || !self.receiver.schedule.greets(now) {
+            return Turn::Used;
+        }
+        after(self.actor.act(self.rt, Event::Greet))
+    }
+
+    /// Receives once, and looks whether the site can go on. Whether the run is over is read before the receive: the registry announces the
+    /// end first, so a receive that is empty after that shows that the node has received it, or never will.
+    fn receive(&mut self) -> Turn {
+        let ending = self.actor.shared.ends_by(self.rt);
+        let mut buffer = [0; BUFFER];
+        let received = self.receiver.received(self.rt, &mut buffer);
+        let is_empty = received == Ok(None);
+        let turn = match received {
+            Ok(Some(bytes)) => self.hear(&buffer[..bytes]),
+            Ok(None) => nap(self.rt),
+            Err(LinkFault) => self.receiver.fail(),
+        };
+        match turn {
+            Turn::Used | Turn::Waited => self.receiver.or_end(turn, ending, is_empty),
+            Turn::Starved | Turn::Ended(_) => turn,
+        }
+    }
+
+    /// A datagram came: if it is a packet, it is delivered. One that is none takes no turn, and neither does one that brings only what was
+    /// entered: that may show the run going on, but each would be an entry of the book.
+    fn hear(&mut self, bytes: &[u8]) -> Turn {
+        if bytes.len() >= BUFFER {
+            return self.receiver.drop_datagram();
+        }
+        let packet = match read_packet(self.actor.shared.context.alloc, bytes) {
+            Ok(packet) => packet,
+            // (the packet is lost, as it may be on its way: what needs an answer is said again)
+            Err(WireFault::Memory) => return Turn::Starved,
+            Err(_) => return self.receiver.drop_datagram(),
+        };
+        let site = self.actor.shared.cell.site();
+        if site.node == 0 || packet.from.node == 0 {
+            let now = self.receiver.now;
+            self.receiver.schedule.hear(now);
+        }
+        if self.receiver.entered.has_all(site, &packet) {
+            return Turn::Waited;
+        }
+        self.deliver(packet)
+    }
+
+    /// Delivers a packet.
+    fn deliver(&mut self, packet: Packet) -> Turn
+        requires { is_well_formed packet ≡ true }
+    {
+        let is_end = matches!(packet.body, Body::Over);
+        let step = match self.actor.act(self.rt, Event::Deliver(packet)) {
+            Ok(step) => step,
+            Err(back) => return after_refusal(back.1),
+        };
+        // (noted only once it is entered: a packet that was refused has to be delivered when it is repeated)
+        if let Event::Deliver(packet) = step.event() {
+            self.receiver.entered.note(packet);
+        }
+        if is_end {
+            return Turn::Ended(EndCause::Over);
+        }
+        // (from here on only the end is announced, and receives of 4 to 8 milliseconds each would draw it out)
+        let node = self.actor.shared.cell.site().node;
+        if !self.receiver.schedule.is_over() && tells_end(node, step.packets()) {
+            let now = self.receiver.now;
+            self.receiver.schedule.end(now);
+            self.receiver.link.hasten();
+        }
+        Turn::Used
+    }
+
+    /// Says again what may be lost, if it is time to, after a turn that came to this.
+    fn say_again(&mut self, turn: Turn) -> Turn {
+        let (said, now) = (self.actor.shared.signals.said(), self.receiver.now);
+        if !self.receiver.schedule.repeats(now, said) {
+            return turn;
+        }
+        match after(self.actor.act(self.rt, Event::Again)) {
+            Turn::Used | Turn::Waited => turn,
+            ended => ended,
+        }
     }
 }
 

@@ -8,12 +8,12 @@ ghost use Rattle.run_book.specs.Sites.{IsRun};
 ghost use Rattle.udp_node.specs.Numbers.{AreNumbered};
 ghost use Rattle.spawn_frame.specs.declared.site.TheConstants.{LAST_NODE};
 
-use crate::run_plan::RunPlan;
+use crate::context::Context;
 use crate::site_run::{RunContext, SiteRun};
 use brancher::Tables;
 use cover_problem::{Answer, Problem};
 use run_book::{Book, Run, published};
-use site_limits::{Ending, Gate, Plan, SiteEnd};
+use site_limits::{Ending, Follower, Gate, Plan, SiteEnd};
 use site_network::Link;
 use std::alloc::{AllocError, Global};
 use std::marker::PhantomData;
@@ -53,46 +53,40 @@ pub struct RunEnd<J: Run> {
 pub fn run_sites<
     J: Run + Send + Sync,
     L: Link + Send,
-    G: Gate + Sync,
+    H: Gate + Follower + Sync,
     R: Threads + Wait + Clock + Sync,
 >(
     rt: &R,
     alloc: Global,
     problem: &Problem,
-    run_plan: RunPlan,
+    plan: Plan,
     links: Vec<L>,
-    gate: &G,
+    hooks: &H,
 ) -> Result<RunEnd<J>, AllocError>
     requires problem { problem.now ≡ J.run.problem }
-    requires nodes { run_plan.plan.nodes ≡ J.run.nodes }
-    requires some { 1 ≤ run_plan.plan.nodes }
-    requires most { run_plan.plan.nodes ≤ LAST_NODE }
-    requires links { vec_len links ≡ run_plan.plan.nodes + 1 }
+    requires nodes { plan.nodes ≡ J.run.nodes }
+    requires some { 1 ≤ plan.nodes }
+    requires most { plan.nodes ≤ LAST_NODE }
+    requires links { vec_len links ≡ plan.nodes + 1 }
     ensures { IfOk result (λ end. IsRunEnd J.run end.answer end.books.items) }
 {
-    let RunPlan {
-        plan,
-        restarts,
-        limit,
-    } = run_plan;
-    let ending = Ending::within(rt, limit, plan.nodes);
+    let ending = Ending::within(rt, plan.limit, plan.nodes);
     // (the name of a run promises a lawful problem, which only a look inside shows to the prover)
     problem.recall_rules();
     let tables = Tables::build(alloc, problem)?;
-    let context = RunContext {
-        problem,
+    let context = Context {
         tables: &tables,
-        gate,
+        hooks,
         ending: &ending,
-        plan,
         alloc,
         run: PhantomData,
     };
+    let run_context = RunContext { context, plan };
     // (room for all before any site starts, so that no book is lost at the end)
-    let books = Vec::with_capacity(alloc, links.len() + usize::from(restarts))?;
+    let books = Vec::with_capacity(alloc, links.len() + usize::from(plan.restarts))?;
     let sites = Vec::with_capacity(alloc, links.len())?;
-    let mut runs = runs_for(alloc, restarts, links)?;
-    run_all(rt, &context, &mut runs);
+    let mut runs = runs_for(alloc, plan.restarts, links)?;
+    run_all(rt, &run_context, &mut runs);
     let (books, sites) = gathered(runs, books, sites)?;
     Ok(RunEnd {
         answer: published(alloc, problem, &books)?,
@@ -123,11 +117,12 @@ fn runs_for<J: Run, L: Link>(
 }
 
 /// Runs all sites to their ends, at once.
-fn run_all<J: Run + Send + Sync, L: Link + Send, G: Gate + Sync, R: Threads + Wait + Clock + Sync>(
-    rt: &R,
-    context: &RunContext<'_, J, G>,
-    runs: &mut Vec<SiteRun<J, L>>,
-)
+fn run_all<
+    J: Run + Send + Sync,
+    L: Link + Send,
+    H: Gate + Follower + Sync,
+    R: Threads + Wait + Clock + Sync,
+>(rt: &R, run_context: &RunContext<'_, J, H>, runs: &mut Vec<SiteRun<J, L>>)
     requires numbered { AreNumbered (λ site. site.node) runs.old.items }
     requires some { 0 < vec_len runs.old }
     ensures { AreNumbered (λ site. site.node) runs.new.items }
@@ -137,7 +132,7 @@ fn run_all<J: Run + Send + Sync, L: Link + Send, G: Gate + Sync, R: Threads + Wa
         rt,
         runs.as_mut_slice(),
         count,
-        &|_, site| { site.run(rt, context) },
+        &|_, site| { site.run(rt, run_context) },
     );
 }
 

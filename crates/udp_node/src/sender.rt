@@ -37,7 +37,7 @@ pub struct Sender<'a, L: Link> {
 /// Sends what is in the outbox, in its order, until no other thread of the site is at work and the outbox is empty. Where the site is to end
 /// already, nothing is sent.
 pub fn send_all<L: Link, R: Wait + Clock>(rt: &R, sender: Sender<'_, L>) -> Sent {
-    if sender.signals.is_over() {
+    if sender.signals.is_stopped() {
         return Sent {
             losses: 0,
             failures: sender.link.failures(),
@@ -60,7 +60,7 @@ fn send_each<L: Link, R: Wait>(rt: &R, sender: Sender<'_, L>) -> Sent {
     // (a range in place of a loop without end, so that the prover sees it end; the other threads end it long before)
     for _look in 0..u64::MAX {
         // (read before the look: a thread leaves after its last put, so this look finds whatever it put in)
-        let is_last = signals.is_left();
+        let is_last = signals.all_have_left();
         let found = send_waiting(rt, outbox, &mut drain, &mut link);
         losses = losses.saturating_add(found.losses);
         // (while it sent, more may have come in, so it looks again before it dozes or ends)
@@ -73,7 +73,7 @@ fn send_each<L: Link, R: Wait>(rt: &R, sender: Sender<'_, L>) -> Sent {
         signals.doze(rt);
     }
     // (a site that sends nothing can't go on; if the others have left already, this changes nothing)
-    signals.end();
+    signals.stop();
     Sent {
         losses,
         failures: link.failures(),

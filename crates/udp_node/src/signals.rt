@@ -38,7 +38,7 @@ pub struct Signals {
     /// How often something was said that may be lost on its way.
     said: AtomicU64,
     /// The site is to end.
-    over: AtomicBool,
+    stopped: AtomicBool,
     /// Where the thread that sends waits.
     sender: Parker,
     /// Where each worker waits that leaves all jobs to another.
@@ -57,7 +57,7 @@ impl Signals {
             hunger: Hunger::new(),
             sole: AtomicU64::new(0),
             said: AtomicU64::new(0),
-            over: AtomicBool::new(false),
+            stopped: AtomicBool::new(false),
             sender: Parker::new(),
             spared: [
                 Parker::new(),
@@ -99,12 +99,12 @@ impl Signals {
     /// The wait has a limit because a thread that can't be started runs after the others: without one, they would wait for it for ever.
     pub fn muster<R: Clock>(&self, rt: &R) {
         for _look in 0..LOOKS {
-            if self.is_manned() || self.is_over() {
+            if self.is_manned() || self.is_stopped() {
                 return;
             }
             thread::sleep(rt, Duration::from_micros(NAP));
         }
-        self.end();
+        self.stop();
     }
 
     /// A thread that put parcels into the outbox puts no more.
@@ -136,7 +136,7 @@ impl Signals {
     }
 
     /// Whether no thread puts parcels into the outbox any more.
-    pub fn is_left(&self) -> bool {
+    pub fn all_have_left(&self) -> bool {
         self.running.load(Ordering::SeqCst) == 0
     }
 
@@ -168,11 +168,11 @@ impl Signals {
     /// This worker leaves the others work again, if they left it all.
     pub fn work_together(&self, worker: u8) {
         let own = u64::from(worker) + 1;
-        let left = self
+        let released = self
             .sole
             .compare_exchange(own, 0, Ordering::SeqCst, Ordering::SeqCst);
         // (where it fails, the others are at work already or have left all jobs to another worker)
-        if left.is_ok() {
+        if released.is_ok() {
             self.rouse_workers();
         }
     }
@@ -198,18 +198,18 @@ impl Signals {
     }
 
     /// Ends the site: its searches are stopped, and no thread of it goes on.
-    pub fn end(&self) {
-        self.over.store(true, Ordering::SeqCst);
+    pub fn stop(&self) {
+        self.stopped.store(true, Ordering::SeqCst);
         self.rouse_workers();
     }
 
     /// Whether that is so.
-    pub fn is_over(&self) -> bool {
-        self.over.load(Ordering::SeqCst)
+    pub fn is_stopped(&self) -> bool {
+        self.stopped.load(Ordering::SeqCst)
     }
 
     /// The flag that is raised then.
-    pub fn over(&self) -> &AtomicBool {
-        &self.over
+    pub fn stop_flag(&self) -> &AtomicBool {
+        &self.stopped
     }
 }

@@ -3,23 +3,21 @@
 ghost use Rattle.std.specs.Prelude.{◌≡◌, ◌+◌, ◌≤◌, None, true, is_some, suc, vec_len, IfOk, IfSome};
 ghost use Rattle.std.specs.Vec.{vec_capacity};
 ghost use Rattle.node_core.specs.Requests.{registry};
-ghost use Rattle.run_book.specs.Sites.{opening_of, IsRun, MayBeginIn};
+ghost use Rattle.run_book.specs.Sites.{opening_of, IsRun, MayBeginIn, StepsAt};
 ghost use Rattle.udp_node.specs.Incarnations.{are_incarnations};
 
-use crate::incarnation_plan::IncarnationPlan;
+use crate::context::Context;
+use crate::incarnation_plan::plan_of_incarnation;
 use crate::node::run_threads;
 use crate::node_end::NodeEnd;
-use crate::site_context::SiteContext;
-use brancher::Tables;
-use cover_problem::Problem;
 use node_core::{Core, NodeCore};
 use root_registry::Registry;
 use run_book::{Book, CellName, CellParts, Run, SiteCell, cores_step_as_their_sites, sites_begin};
-use site_limits::{EndCause, Ending, Gate, Plan, SiteEnd};
+use site_limits::{EndCause, Follower, Gate, Plan, SiteEnd};
 use site_network::Link;
 use spawn_frame::Site;
 use std::alloc::{AllocError, Global};
-use std::marker::{Brand, PhantomData};
+use std::marker::Brand;
 use std::sync::Wait;
 use std::thread::Threads;
 use std::time::Clock;
@@ -29,44 +27,20 @@ const NAMES: u32 = 1_000_000;
 
 /// What the sites of a run share.
 #[derive(Drop)]
-pub struct RunContext<'a, J: Run, G: Gate> {
-    /// What is searched.
-    pub problem: &'a Problem,
-    /// What the searches of it share.
-    pub tables: &'a Tables<'a>,
-    /// What holds workers back, and hears how far all sites have come.
-    pub gate: &'a G,
-    /// What ends the run.
-    pub ending: &'a Ending,
-    /// How the sites work, and how many there are.
+pub struct RunContext<'a, J: Run, H: Gate + Follower> {
+    /// What the threads of all of them share.
+    pub context: Context<'a, J, H>,
+    /// How they work, and how many there are.
     pub plan: Plan,
-    /// Where memory comes from.
-    pub alloc: Global,
-    /// The run's name.
-    pub run: PhantomData<J>,
     pub ghost is_run: { IsRun J.run },
-    pub ghost same: { problem.now ≡ J.run.problem },
-    pub ghost searched: { tables.now ≡ J.run.problem },
     pub ghost nodes: { plan.nodes ≡ J.run.nodes },
 }
 
-impl<J: Run, G: Gate> RunContext<'_, J, G> {
-    /// What the threads of each site are given.
-    fn site_context(&self) -> SiteContext<'_, G>
-        ensures { result.tables.now ≡ J.run.problem }
-    {
-        SiteContext {
-            tables: self.tables,
-            gate: self.gate,
-            ending: self.ending,
-            alloc: self.alloc,
-        }
-    }
-
+impl<J: Run, H: Gate + Follower> RunContext<'_, J, H> {
     /// Ends the run with the site of this node, which ended so.
     fn end(&self, node: u8, end: &SiteEnd) {
-        self.gate.ended(node, end);
-        self.ending.raise();
+        self.context.hooks.ended(node, end);
+        self.context.ending.raise();
     }
 }
 
@@ -110,38 +84,38 @@ impl<J: Run, L: Link> SiteRun<J, L> {
     /// Runs all incarnations of the site to their ends, once, one after the other. A node waits until the registry's threads have begun,
     /// so that the registry gets its own where few can be started. The run ends if the others can't go on without the site afterwards, or
     /// no node is left.
-    pub fn run<G: Gate + Sync, R: Threads + Wait + Clock + Sync>(
+    pub fn run<H: Gate + Follower + Sync, R: Threads + Wait + Clock + Sync>(
         &mut self,
         rt: &R,
-        context: &RunContext<'_, J, G>,
+        run_context: &RunContext<'_, J, H>,
     )
     where
         J: Send + Sync,
         L: Send,
         ensures { self.new.node ≡ self.old.node }
     {
-        if self.node != 0 && !context.ending.await_registry(rt) {
-            self.end.cause = context.ending.cause(rt);
-            context.end(self.node, &self.end);
+        if self.node != 0 && !run_context.context.ending.await_registry(rt) {
+            self.end.cause = run_context.context.ending.cause(rt);
+            run_context.end(self.node, &self.end);
             return;
         }
         // (the site is behind a reference, so its link is taken out for the threads to own)
         if let Some(link) = self.link.take() {
-            self.run_incarnations(rt, context, link);
+            self.run_incarnations(rt, run_context, link);
         }
         // (the registry isn't counted: without a node there is nobody who could return the root's result)
-        let is_last = self.node != 0 && context.ending.leave();
+        let is_last = self.node != 0 && run_context.context.ending.leave();
         if is_last || self.end.ends_run(self.node) {
-            context.end(self.node, &self.end);
+            run_context.end(self.node, &self.end);
         }
     }
 
     /// Runs all incarnations of the site to their ends. Its link stays open over all of them: the last has
     /// it, the others a twin of it.
-    fn run_incarnations<G: Gate + Sync, R: Threads + Wait + Clock + Sync>(
+    fn run_incarnations<H: Gate + Follower + Sync, R: Threads + Wait + Clock + Sync>(
         &mut self,
         rt: &R,
-        context: &RunContext<'_, J, G>,
+        run_context: &RunContext<'_, J, H>,
         link: L,
     )
     where
@@ -154,16 +128,16 @@ impl<J: Run, L: Link> SiteRun<J, L> {
         for _incarnation in 0..self.restarts {
             // (handed on as it is: a twin that was refused ends this incarnation as one without memory)
             let twin = link.twin();
-            self.run_next(rt, context, twin);
+            self.run_next(rt, run_context, twin);
         }
-        self.run_next(rt, context, Ok(link));
+        self.run_next(rt, run_context, Ok(link));
     }
 
     /// Runs the next incarnation to its end, over this link, unless there is no memory for it.
-    fn run_next<G: Gate + Sync, R: Threads + Wait + Clock + Sync>(
+    fn run_next<H: Gate + Follower + Sync, R: Threads + Wait + Clock + Sync>(
         &mut self,
         rt: &R,
-        context: &RunContext<'_, J, G>,
+        run_context: &RunContext<'_, J, H>,
         link: Result<L, AllocError>,
     )
     where
@@ -177,14 +151,13 @@ impl<J: Run, L: Link> SiteRun<J, L> {
         ensures incarnations { self.new.incarnations ≡ self.old.incarnations + 1 }
     {
         let is_over = self.end.cause == EndCause::Over;
-        let is_last = self.incarnations >= u32::from(self.restarts);
-        let incarnation_plan = IncarnationPlan::of(context.plan, self.restarts, is_over, is_last);
+        let plan = plan_of_incarnation(run_context.plan, self.restarts, is_over);
         self.incarnations += 1;
         let site = Site {
             node: self.node,
             incarnation: self.incarnations,
         };
-        let (book, end) = run_site(rt, context, site, incarnation_plan, link);
+        let (book, end) = run_site(rt, run_context, site, plan, link);
         if let Some(book) = book {
             self.books.push_reserved(book);
         }
@@ -208,23 +181,28 @@ impl<J: Run, L: Link> SiteRun<J, L> {
 }
 
 /// Runs an incarnation of a site to its end. There is no book if there was no memory for it.
-fn run_site<J: Run + Send + Sync, L: Link + Send, G: Gate + Sync, R: Threads + Wait + Clock + Sync>(
+fn run_site<
+    J: Run + Send + Sync,
+    L: Link + Send,
+    H: Gate + Follower + Sync,
+    R: Threads + Wait + Clock + Sync,
+>(
     rt: &R,
-    context: &RunContext<'_, J, G>,
+    run_context: &RunContext<'_, J, H>,
     site: Site,
-    incarnation_plan: IncarnationPlan,
+    plan: Plan,
     link: Result<L, AllocError>,
 ) -> (Option<Book<J>>, SiteEnd)
-    requires there { site.node ≤ context.now.plan.nodes }
+    requires there { site.node ≤ run_context.now.plan.nodes }
     requires some { 1 ≤ site.incarnation }
     requires registry { site.node ≡ 0 → site.incarnation ≡ 1 }
-    requires plan { incarnation_plan.plan.nodes ≡ context.now.plan.nodes }
+    requires plan { plan.nodes ≡ run_context.now.plan.nodes }
     ensures { IfSome result.0 (λ book. book.site ≡ site) }
 {
     let ran = if site.node == 0 {
-        start_registry(rt, context, incarnation_plan, link)
+        start_registry(rt, run_context, plan, link)
     } else {
-        start_node(rt, context, site, incarnation_plan, link)
+        start_node(rt, run_context, site, plan, link)
     };
     match ran {
         Ok(ended) => ended,
@@ -232,127 +210,86 @@ fn run_site<J: Run + Send + Sync, L: Link + Send, G: Gate + Sync, R: Threads + W
     }
 }
 
-/// Starts the registry, and runs it to its end. The only error is out of memory at the start.
+/// Starts the registry, which has no workers, and runs it to its end. The only error is out of memory at the start.
 fn start_registry<
     J: Run + Send + Sync,
     L: Link + Send,
-    G: Gate + Sync,
+    H: Gate + Follower + Sync,
     R: Threads + Wait + Clock + Sync,
 >(
     rt: &R,
-    context: &RunContext<'_, J, G>,
-    incarnation_plan: IncarnationPlan,
+    run_context: &RunContext<'_, J, H>,
+    plan: Plan,
     link: Result<L, AllocError>,
 ) -> Result<(Option<Book<J>>, SiteEnd), AllocError>
     ensures { IfOk result (λ ended. IfSome ended.0 (λ book. book.site ≡ registry)) }
 {
     sites_begin();
+    cores_step_as_their_sites();
     let link = link?;
-    let cell_parts = CellParts::new(context.alloc)?;
-    let core = Registry::start(context.alloc, context.problem, context.plan.nodes)?;
+    let plan = Plan { workers: 0, ..plan };
+    let (alloc, tables) = (run_context.context.alloc, run_context.context.tables);
+    let cell_parts = CellParts::new(alloc)?;
+    let core = Registry::start(alloc, tables.problem(), run_context.plan.nodes)?;
     // (a type names the cell, by which seats and receipts are tied to it: here Brand gets the names of these parts)
-    Ok(run_registry::<J, Brand, L, G, R>(rt, context, incarnation_plan, cell_parts, core, link))
+    Ok(run_core::<J, Registry, Brand, L, H, R>(rt, run_context, plan, cell_parts, core, link))
 }
 
 /// Starts the site of a node, and runs it to its end. The only error is out of memory at the start.
 fn start_node<
     J: Run + Send + Sync,
     L: Link + Send,
-    G: Gate + Sync,
+    H: Gate + Follower + Sync,
     R: Threads + Wait + Clock + Sync,
 >(
     rt: &R,
-    context: &RunContext<'_, J, G>,
+    run_context: &RunContext<'_, J, H>,
     site: Site,
-    incarnation_plan: IncarnationPlan,
+    plan: Plan,
     link: Result<L, AllocError>,
 ) -> Result<(Option<Book<J>>, SiteEnd), AllocError>
     requires some { 1 ≤ site.node }
-    requires most { site.node ≤ context.now.plan.nodes }
+    requires most { site.node ≤ run_context.now.plan.nodes }
     requires incarnation { 1 ≤ site.incarnation }
     ensures { IfOk result (λ ended. IfSome ended.0 (λ book. book.site ≡ site)) }
 {
     sites_begin();
+    cores_step_as_their_sites();
     let link = link?;
-    let cell_parts = CellParts::new(context.alloc)?;
-    let core = NodeCore::start(
-        context.alloc,
-        context.problem,
-        site,
-        context.plan.nodes,
-        NAMES,
-    )?;
-    Ok(run_worker_node::<J, Brand, L, G, R>(rt, context, incarnation_plan, cell_parts, core, link))
+    let (alloc, tables) = (run_context.context.alloc, run_context.context.tables);
+    let cell_parts = CellParts::new(alloc)?;
+    let nodes = run_context.plan.nodes;
+    let core = NodeCore::start(alloc, tables.problem(), site, nodes, NAMES)?;
+    Ok(run_core::<J, NodeCore, Brand, L, H, R>(rt, run_context, plan, cell_parts, core, link))
 }
 
-/// Runs the registry, which begins, to its end.
-fn run_registry<
+/// Runs a site whose core begins to its end.
+fn run_core<
     J: Run + Send + Sync,
+    C: Core + Drop + Send,
     N: CellName + Send + Sync,
     L: Link + Send,
-    G: Gate + Sync,
+    H: Gate + Follower + Sync,
     R: Threads + Wait + Clock + Sync,
 >(
     rt: &R,
-    context: &RunContext<'_, J, G>,
-    incarnation_plan: IncarnationPlan,
+    run_context: &RunContext<'_, J, H>,
+    plan: Plan,
     cell_parts: CellParts,
-    core: Registry,
+    core: C,
     link: L,
 ) -> (Option<Book<J>>, SiteEnd)
     requires here { cell_parts ≡ record { table = N.table; name = N.name } }
     requires parts { N.parts ≡ 18446744073709551615 }
     requires begins { MayBeginIn J.run N.site N.limit }
-    requires registry { N.site.node ≡ 0 }
-    requires core { core ≡ record {
-      problem = J.run.problem;
-      view = opening_of J.run N.site N.limit;
-    } }
+    requires steps { StepsAt N.site.node C.step }
+    requires problem { C.problem core ≡ J.run.problem }
+    requires view { C.view core ≡ opening_of J.run N.site N.limit }
     ensures { IfSome result.0 (λ book. book.site ≡ N.site) }
 {
-    cores_step_as_their_sites();
-    let cell: SiteCell<J, Registry, N> = SiteCell::new(cell_parts, core, context.plan.entries);
-    let plan = Plan {
-        workers: 0,
-        ..incarnation_plan.plan
-    };
-    let registry_plan = IncarnationPlan {
-        plan,
-        ..incarnation_plan
-    };
-    let end = run_threads(rt, &cell, link, registry_plan, context.site_context());
-    closed(context.alloc, cell, end)
-}
-
-/// Runs a node, which begins, to its end.
-fn run_worker_node<
-    J: Run + Send + Sync,
-    N: CellName + Send + Sync,
-    L: Link + Send,
-    G: Gate + Sync,
-    R: Threads + Wait + Clock + Sync,
->(
-    rt: &R,
-    context: &RunContext<'_, J, G>,
-    incarnation_plan: IncarnationPlan,
-    cell_parts: CellParts,
-    core: NodeCore,
-    link: L,
-) -> (Option<Book<J>>, SiteEnd)
-    requires here { cell_parts ≡ record { table = N.table; name = N.name } }
-    requires parts { N.parts ≡ 18446744073709551615 }
-    requires begins { MayBeginIn J.run N.site N.limit }
-    requires node { 1 ≤ N.site.node }
-    requires core { core ≡ record {
-      problem = J.run.problem;
-      view = opening_of J.run N.site N.limit;
-    } }
-    ensures { IfSome result.0 (λ book. book.site ≡ N.site) }
-{
-    cores_step_as_their_sites();
-    let cell: SiteCell<J, NodeCore, N> = SiteCell::new(cell_parts, core, context.plan.entries);
-    let end = run_threads(rt, &cell, link, incarnation_plan, context.site_context());
-    closed(context.alloc, cell, end)
+    let cell: SiteCell<J, C, N> = SiteCell::new(cell_parts, core, plan.entries);
+    let end = run_threads(rt, &run_context.context, &cell, plan, link);
+    closed(run_context.context.alloc, cell, end)
 }
 
 /// Closes the cell of a site whose threads ended. There is no book where there was no memory to hand in all that it asks

@@ -5,38 +5,49 @@ ghost use Rattle.cover_problem.specs.Prefix.{is_prefix};
 ghost use Rattle.udp_node.specs.Hands.{IsPosted};
 
 use crate::actor::Actor;
-use crate::exchange::{Exchange, INBOX};
+use crate::exchange::INBOX;
 use crate::few_visits::FewVisits;
 use crate::hand::{Hand, SearchJob, Searched};
 use crate::idleness::{IdleTurn, Idleness};
 use crate::looks::Looks;
 use crate::savings::{Savings, Shown};
 use crate::seat_receipts::Refused;
-use crate::signals::Signals;
-use brancher::{Finding, Outcome, ROOM, Searcher, Tables};
+use crate::turns::noted;
+use brancher::{Finding, Outcome, ROOM, Searcher};
 use cover_problem::Numbers;
 use node_core::{ActFault, Core, Event, Reply};
 use rand_core::utils::NextWord;
 use rand_pcg::Pcg32;
 use run_book::{BookFault, CellName, Run, Step};
-use site_limits::{EndCause, Gate, Pace, Plan, SearchWatch, Turn};
+use site_limits::{EndCause, Follower, Gate, Limits, Pace, Plan, SearchWatch, Turn};
 use spawn_frame::Job;
-use std::alloc::{AllocError, Global};
+use std::alloc::AllocError;
 use std::marker::PhantomData;
 use std::sync::Wait;
 use std::time::Clock;
 use std::{mem, thread};
 
 /// A prefix without a cover is worth telling of if a search of it takes so many visits.
-const TOLD: u64 = 4_096;
+const WORTH_TELLING: u64 = 4_096;
 
 /// So many visits show whether there is no cover below a prefix of which all children are known.
 const CLIMB: u64 = 256;
 
 /// A worker of a node, between its turns.
 #[derive(Drop)]
-pub struct Worker<'a, J: Run> {
-    searcher: Searcher<'a>,
+pub struct Worker<
+    'r,
+    't,
+    's,
+    J: Run,
+    C: Core + Drop,
+    N: CellName,
+    H: Gate + Follower,
+    R: Wait + Clock,
+> {
+    rt: &'r R,
+    actor: &'t mut Actor<'s, J, C, N, H>,
+    searcher: Searcher<'s>,
     hand: Hand<J>,
     pace: Pace,
     rng: Pcg32,
@@ -46,26 +57,33 @@ pub struct Worker<'a, J: Run> {
     /// How many visits the last search might make.
     limit: u64,
     number: u8,
-    node: u8,
-    alloc: Global,
     ghost same: { searcher.problem ≡ J.run.problem },
 }
 
-impl<'a, J: Run> Worker<'a, J> {
-    /// The worker of this number at a node, before its first turn. The only error is out of memory.
+impl<'r, 't, 's, J: Run, C: Core + Drop, N: CellName, H: Gate + Follower, R: Wait + Clock> Worker<
+    'r,
+    't,
+    's,
+    J,
+    C,
+    N,
+    H,
+    R,
+> {
+    /// The worker of this number that acts so, before its first turn. The only error is out of memory.
     pub fn new(
-        alloc: Global,
-        tables: &'a Tables<'a>,
-        plan: Plan,
-        node: u8,
+        rt: &'r R,
+        actor: &'t mut Actor<'s, J, C, N, H>,
         number: u8,
-    ) -> Result<Worker<'a, J>, AllocError>
-        requires { tables.now ≡ J.run.problem }
-    {
+    ) -> Result<Worker<'r, 't, 's, J, C, N, H, R>, AllocError> {
+        let shared = actor.shared;
+        let (tables, alloc, plan) = (shared.context.tables, shared.context.alloc, shared.plan);
         // (a stream for each worker of the run: on one stream two workers would draw the same victims)
-        let stream = u64::from(node) * 16 + u64::from(number);
+        let stream = u64::from(shared.cell.site().node) * 16 + u64::from(number);
         let alone = plan.nodes == 1 && plan.workers == 1;
         Ok(Worker {
+            rt,
+            actor,
             searcher: Searcher::keeping(alloc, tables, room_for(plan))?,
             hand: Hand::Nothing,
             // (each option of a prefix covers a primary item, so no prefix has more options than these)
@@ -76,81 +94,83 @@ impl<'a, J: Run> Worker<'a, J> {
             savings: Savings::new(),
             limit: 1,
             number,
-            node,
-            alloc,
         })
     }
 
+    /// Takes turns until one ends the thread, or these limits do.
+    pub fn run(&mut self, limits: &mut Limits) -> EndCause {
+        // (a range in place of a loop without end, so that the prover sees it end; the limits end it long before)
+        for _turn in 0..u64::MAX {
+            if limits.is_spent() {
+                break;
+            }
+            let turn = self.turn();
+            if let Some(cause) = noted(self.rt, limits, turn) {
+                return cause;
+            }
+        }
+        EndCause::Turns
+    }
+
     /// One turn: goes on with what is in hand, or takes up work, unless the site is to end.
-    pub fn turn<C: Core + Drop, N: CellName, G: Gate, R: Wait + Clock>(
-        &mut self,
-        rt: &R,
-        actor: &mut Actor<'_, J, C, N, G>,
-    ) -> Turn {
-        if actor.shared.signals.is_over() {
+    fn turn(&mut self) -> Turn {
+        if self.actor.shared.signals.is_stopped() {
             return Turn::Ended(EndCause::Turns);
         }
         match mem::replace(&mut self.hand, Hand::Nothing) {
             // (only with nothing in hand: a job that was taken up is known to no other worker)
-            Hand::Nothing if actor.shared.signals.is_spared(self.number) => {
-                actor.shared.signals.spare(rt, self.number);
+            Hand::Nothing if self.actor.shared.signals.is_spared(self.number) => {
+                self.actor.shared.signals.spare(self.rt, self.number);
                 Turn::Waited
             }
-            Hand::Nothing => self.take(rt, actor),
-            Hand::Search(search_job) => self.search(rt, actor, search_job),
-            Hand::Post(searched) => self.post(rt, actor, searched),
+            Hand::Nothing => self.take(),
+            Hand::Search(search_job) => self.search(search_job),
+            Hand::Post(searched) => self.post(searched),
         }
     }
 
     /// Takes up work: a unit is searched, a settled frame finished; where there is none it asks another site.
-    fn take<C: Core + Drop, N: CellName, G: Gate, R: Wait + Clock>(
-        &mut self,
-        rt: &R,
-        actor: &mut Actor<'_, J, C, N, G>,
-    ) -> Turn {
+    fn take(&mut self) -> Turn {
         // (a Take that is answered Idle is an entry, too, and idle workers would soon fill the book)
-        if !self.looks.is_begun(actor.shared.signals) {
-            return self.rest(rt, actor);
+        if !self.looks.is_begun(self.actor.shared.signals) {
+            return self.rest();
         }
-        let taken = match actor.act(rt, Event::Take) {
+        let taken = match self.actor.act(self.rt, Event::Take) {
             Ok(step) => step.into_reply(),
             Err(back) => return after_refusal(back.1),
         };
         match taken {
             Reply::Taken(job, prefix) => {
                 self.idleness.end();
-                let fuel = self
-                    .pace
-                    .fuel(prefix.as_slice().len(), actor.shared.signals.hunger());
-                self.search(rt, actor, SearchJob::new(job, prefix, fuel))
+                let fuel = self.pace.fuel(
+                    prefix.as_slice().len(),
+                    self.actor.shared.signals.hunger(),
+                );
+                self.search(SearchJob::new(job, prefix, fuel))
             }
             Reply::Ripe(unit) => {
                 self.idleness.end();
-                after(actor.act(rt, Event::Finish(unit)))
+                after(self.actor.act(self.rt, Event::Finish(unit)))
             }
             Reply::Idle | Reply::Moved | Reply::Ignored => {
                 self.looks.note_nothing();
                 // (it has nothing to do itself, so the others have no reason to leave it all jobs)
-                actor.shared.signals.work_together(self.number);
-                self.rest(rt, actor)
+                self.actor.shared.signals.work_together(self.number);
+                self.rest()
             }
         }
     }
 
     /// There is nothing to do: another site is asked for work now and then.
-    fn rest<C: Core + Drop, N: CellName, G: Gate, R: Wait + Clock>(
-        &mut self,
-        rt: &R,
-        actor: &mut Actor<'_, J, C, N, G>,
-    ) -> Turn {
-        let plan = actor.shared.plan;
+    fn rest(&mut self) -> Turn {
+        let plan = self.actor.shared.plan;
         match self.idleness.next(workers_of(plan)) {
             IdleTurn::Asks => {
                 let victim = self.victim(plan.nodes);
-                after(actor.act(rt, Event::Ask(victim)))
+                after(self.actor.act(self.rt, Event::Ask(victim)))
             }
             IdleTurn::Waits(nap) => {
-                thread::sleep(rt, nap);
+                thread::sleep(self.rt, nap);
                 Turn::Waited
             }
             IdleTurn::Passes => Turn::Waited,
@@ -159,8 +179,9 @@ impl<'a, J: Run> Worker<'a, J> {
 
     /// Another site, picked at random: in place of the own node the registry.
     fn victim(&mut self, nodes: u8) -> u8 {
+        let node = self.actor.shared.cell.site().node;
         let drawn = self.rng.next_word() % (u32::from(nodes) + 1);
-        if drawn == u32::from(self.node) {
+        if drawn == u32::from(node) {
             return 0;
         }
         // (at most the number of nodes, which has eight bits)
@@ -168,12 +189,7 @@ impl<'a, J: Run> Worker<'a, J> {
     }
 
     /// Searches a job's prefix, and posts what comes of it; it is given up once the site receives no more.
-    fn search<C: Core + Drop, N: CellName, G: Gate, R: Wait + Clock>(
-        &mut self,
-        rt: &R,
-        actor: &mut Actor<'_, J, C, N, G>,
-        search_job: SearchJob<J>,
-    ) -> Turn {
+    fn search(&mut self, search_job: SearchJob<J>) -> Turn {
         let SearchJob {
             job,
             prefix,
@@ -184,25 +200,25 @@ impl<'a, J: Run> Worker<'a, J> {
         self.limit = fuel.max(1);
         let keeps = self.searcher.keeps();
         let fuel = search_fuel(keeps, self.limit);
-        let (gate, signals) = (actor.shared.gate, actor.shared.signals);
-        self.learn(rt, actor.shared.exchange);
-        gate.begun();
+        let (hooks, signals) = (self.actor.shared.context.hooks, self.actor.shared.signals);
+        self.learn();
+        hooks.begun();
         let length = prefix.as_slice().len();
         let quota = self.pace.quota(length, self.limit);
-        let mut watch = SearchWatch::new(signals.over(), gate, length, fuel, quota);
+        let mut watch = SearchWatch::new(signals.stop_flag(), hooks, length, fuel, quota);
         match self
             .searcher
             .find_so_far(prefix.into_vec(), fuel, &mut watch)
         {
-            Ok(Some((finding, count))) if !watch.is_over() => {
-                let visits = if keeps { watch.visits() } else { count };
-                gate.searched(&finding, visits);
+            Ok(Some((finding, count))) if !watch.is_called_off() => {
+                let made = if keeps { watch.made_visits() } else { count };
+                hooks.searched(&finding, made);
                 if keeps {
-                    self.share(signals, &watch);
-                    self.tell_if_barren(rt, actor.shared.exchange, &finding, count);
+                    self.share(&watch);
+                    self.tell_if_barren(&finding, count);
                 }
-                self.pace.note(length, finding.outcome(), visits);
-                self.post(rt, actor, Searched { job, finding, run })
+                self.pace.note(length, finding.outcome(), made);
+                self.post(Searched { job, finding, run })
             }
             Ok(_) => Turn::Ended(EndCause::Turns),
             Err(prefix) => self.end_unsearched(job, Numbers::from_vec(prefix)),
@@ -218,36 +234,32 @@ impl<'a, J: Run> Worker<'a, J> {
     }
 
     /// Keeps what the node's other workers found to have no cover.
-    fn learn<R: Wait>(&mut self, rt: &R, exchange: &Exchange<J>) {
+    fn learn(&mut self) {
+        let exchange = self.actor.shared.exchange;
         for _ in 0..INBOX {
             // (an inbox full at most: others may add to it as fast as it is read, and the job waits)
-            let Some(told) = exchange.hear(rt, self.number) else {
+            let Some(heard) = exchange.hear(self.rt, self.number) else {
                 return;
             };
-            self.searcher.learn(told.prefix.as_slice(), told.count);
+            self.searcher.learn(heard.prefix.as_slice(), heard.count);
         }
     }
 
     /// Tells the node's other workers of a finding, if there is no cover and another search for it would take so many visits.
-    fn tell_if_barren<R: Wait>(
-        &mut self,
-        rt: &R,
-        exchange: &Exchange<J>,
-        finding: &Finding,
-        count: u64,
-    )
+    fn tell_if_barren(&mut self, finding: &Finding, count: u64)
         requires { is_prefix J.run.problem finding.now.prefix ≡ true }
     {
-        if finding.outcome() == Outcome::Barren && count >= TOLD {
-            self.tell(rt, exchange, finding.prefix());
+        if finding.outcome() == Outcome::Barren && count >= WORTH_TELLING {
+            self.tell(finding.prefix());
         }
     }
 
     /// Tells the node's other workers that there is no cover below a prefix, and the same of those before it, as far as what is kept
     /// shows it: a frame of which all children are done is no job of anybody's, so nobody else finds it out.
-    fn tell<R: Wait>(&mut self, rt: &R, exchange: &Exchange<J>, prefix: &[u16])
+    fn tell(&mut self, prefix: &[u16])
         requires { is_prefix J.run.problem prefix.now ≡ true }
     {
+        let shared = self.actor.shared;
         for length in (0..prefix.len() + 1).rev() {
             let front = &prefix[..length];
             let mut few = FewVisits::new(CLIMB);
@@ -255,14 +267,17 @@ impl<'a, J: Run> Worker<'a, J> {
             let Some(count) = self.searcher.barren_visits(front, &mut few) else {
                 return;
             };
-            exchange.tell(rt, self.alloc, self.number, front, count);
+            shared
+                .exchange
+                .tell(self.rt, shared.context.alloc, self.number, front, count);
         }
     }
 
     /// Leaves the node's other workers something to do or not, by what the states saved: where they save very much, each other worker
     /// would find the same states once more, and all would take longer than one does.
-    fn share<G: Gate>(&mut self, signals: &Signals, watch: &SearchWatch<'_, G>) {
-        match self.savings.note(watch.visits(), watch.gone()) {
+    fn share(&mut self, watch: &SearchWatch<'_, H>) {
+        let signals = self.actor.shared.signals;
+        match self.savings.note(watch.made_visits(), watch.gone()) {
             Shown::Much => signals.work_alone(self.number),
             Shown::Little => signals.work_together(self.number),
             Shown::Nothing => {}
@@ -270,13 +285,9 @@ impl<'a, J: Run> Worker<'a, J> {
     }
 
     /// Posts what a search came to, once the gate lets it pass.
-    fn post<C: Core + Drop, N: CellName, G: Gate, R: Wait + Clock>(
-        &mut self,
-        rt: &R,
-        actor: &mut Actor<'_, J, C, N, G>,
-        searched: Searched<J>,
-    ) -> Turn {
-        if !actor.shared.gate.pass(self.number, &searched.job) {
+    fn post(&mut self, searched: Searched<J>) -> Turn {
+        let hooks = self.actor.shared.context.hooks;
+        if !hooks.pass(self.number, &searched.job) {
             self.hand = Hand::Post(searched);
             return Turn::Used;
         }
@@ -286,12 +297,12 @@ impl<'a, J: Run> Worker<'a, J> {
             run: _,
         } = searched;
         let outcome = finding.outcome();
-        match actor.act(rt, Event::Post(job, finding)) {
+        match self.actor.act(self.rt, Event::Post(job, finding)) {
             Ok(_step) => {
                 if outcome == Outcome::Spent {
-                    actor.shared.signals.hunger().feed();
+                    self.actor.shared.signals.hunger().feed();
                 }
-                actor.shared.gate.posted(self.number, &job);
+                hooks.posted(self.number, &job);
                 Turn::Used
             }
             Err(back) => {
@@ -305,7 +316,7 @@ impl<'a, J: Run> Worker<'a, J> {
     fn search_again(&mut self, job: Job, finding: &Finding) -> Turn
         requires { is_prefix J.run.problem finding.now.prefix ≡ true }
     {
-        match Vec::from_slice(self.alloc, finding.prefix()) {
+        match Vec::from_slice(self.actor.shared.context.alloc, finding.prefix()) {
             Ok(prefix) => {
                 let fuel = self.limit.saturating_mul(16);
                 let prefix = Numbers::from_vec(prefix);

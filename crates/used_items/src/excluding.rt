@@ -6,7 +6,7 @@ ghost use Rattle.cover_problem.specs.Search.{first};
 use crate::laws::same_covers_have_the_same_none;
 use crate::making::with_used_items;
 use cover_problem::Problem;
-use cover_reasons::{ReasonWatch, find_reason_until, holds_of};
+use cover_reasons::{ReasonWatch, find_short_reason_until, holds_of};
 use std::alloc::{AllocError, Global};
 
 /// Whether a reason is found why the problem has no exact cover, before the watch ends that.
@@ -17,7 +17,7 @@ fn has_reason<W: ReasonWatch>(
 ) -> Result<bool, AllocError>
     ensures { IfOk result (λ found. found ≡ true → first problem.now [] ≡ None) }
 {
-    match find_reason_until(alloc, problem, watch)? {
+    match find_short_reason_until(alloc, problem, watch)? {
         // (for its clause, that a search finds nothing then: the finder has tested the reason already)
         Some(reason) => Ok(holds_of(problem, &reason)),
         None => Ok(false),

@@ -9,7 +9,7 @@ use std::alloc::{AllocError, Global};
 use std::sync::{Arc, Wait};
 use std::thread::Threads;
 use std::time::Clock;
-use udp_node::{MemoryLink, Open, Plan, RunEnd, RunPlan, Timing, Wires, run_sites};
+use udp_node::{MemoryLink, Open, Plan, RunEnd, Timing, Wires, run_sites};
 
 /// The plan of a run that the numbers spell: nodes, workers, seed, fuel, turns.
 pub fn plan_of(nodes: &str, workers: &str, seed: &str, fuel: &str, turns: &str) -> Option<Plan>
@@ -27,6 +27,8 @@ pub fn plan_of(nodes: &str, workers: &str, seed: &str, fuel: &str, turns: &str) 
         turns: turns.parse::<u64>().ok()?,
         timing: Timing::USUAL,
         entries: 1_000_000,
+        restarts: 0,
+        limit: None,
     })
 }
 
@@ -54,5 +56,5 @@ pub fn run_over_memory<J: Run + Send + Sync, R: Threads + Wait + Clock + Sync>(
     requires most { plan.nodes ≤ LAST_NODE }
 {
     let links = links(alloc, plan.nodes + 1)?;
-    run_sites(rt, alloc, problem, RunPlan::new(plan), links, &Open)
+    run_sites(rt, alloc, problem, plan, links, &Open)
 }

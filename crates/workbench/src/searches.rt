@@ -49,7 +49,7 @@ fn searcher_over<'a>(
     if is_kept {
         Searcher::keeping(alloc, tables, ROOM)
     } else {
-        Searcher::over(alloc, tables)
+        Searcher::of_tables(alloc, tables)
     }
 }
 

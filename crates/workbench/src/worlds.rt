@@ -7,7 +7,7 @@ ghost use Rattle.std.specs.Prelude.{◌≤◌, IfSome};
 ghost use Rattle.spawn_frame.specs.declared.site.TheConstants.{LAST_NODE};
 
 mod story;
-mod told;
+mod texts;
 
 use crate::words::text_of;
 use crate::worlds::story::{Plan, measure, tell};

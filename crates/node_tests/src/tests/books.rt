@@ -1,7 +1,7 @@
-//! The books of a run: one of thousands of entries, and that a gate hears of each entry.
+//! The books of a run: one of thousands of entries, and that a follower hears of each entry.
 //!
 //! Of the bugs of `udp_node` that are kept outside the gate, `a_book_has_room_for_thousands` finds `a_book_of_2000_entries`,
-//! `the_registrys_book_has_room_for_thousands` finds `the_registrys_book_of_2000_entries`, and `a_gate_hears_of_each_entry` finds
+//! `the_registrys_book_has_room_for_thousands` finds `the_registrys_book_of_2000_entries`, and `a_follower_hears_of_each_entry` finds
 //! `nobody_hears_of_the_registry`.
 
 use super::crowded::crowded_registry;
@@ -10,11 +10,10 @@ use super::lone::{HERE, REGISTRY};
 use super::runs::{COVERED, Came, Row, Told, run, run_whole};
 use super::timings::SOON;
 use packet_wire::{Body, Packet, is_well_formed, write_packet};
-use spawn_frame::Job;
 use std::alloc::Global;
 use std::sync::atomic::{AtomicUsize, Ordering};
 use std::test::Fail;
-use udp_node::{Gate, Open, Plan};
+use udp_node::{Follower, Gate, Open, Plan};
 
 /// The pairs of nine items, those with the first item twice: no five pairs cover nine items. A search visits 1,265 prefixes.
 static PAIRS: Row = (
@@ -34,6 +33,8 @@ const PLAN: Plan = Plan {
     turns: 1_000_000,
     timing: SOON,
     entries: 1_000_000,
+    restarts: 0,
+    limit: None,
 };
 
 #[test]
@@ -74,35 +75,31 @@ fn the_registrys_book_has_room_for_thousands(rt: HostRuntime) -> Result<(), Fail
     Ok(())
 }
 
-/// A gate that lets all pass, and counts the entries of which it hears.
+/// Lets all pass, and counts the entries of which it hears.
 #[derive(Drop)]
 struct EntryCount {
     entries: AtomicUsize,
 }
 
-impl Gate for EntryCount {
-    fn pass(&self, _worker: u8, _job: &Job) -> bool {
-        true
-    }
+impl Gate for EntryCount {}
 
-    fn posted(&self, _worker: u8, _job: &Job) {}
-
+impl Follower for EntryCount {
     fn recorded(&self, _entries: u64, _most: u64) {
         self.entries.fetch_add(1, Ordering::SeqCst);
     }
 }
 
 #[test]
-fn a_gate_hears_of_each_entry(rt: HostRuntime) -> Result<(), Fail> {
-    let gate = EntryCount {
+fn a_follower_hears_of_each_entry(rt: HostRuntime) -> Result<(), Fail> {
+    let counted = EntryCount {
         entries: AtomicUsize::new(0),
     };
     let links = wires(rt.alloc(), PLAN.nodes)?;
-    let Some(ran) = run_whole(&rt, rt.alloc(), &COVERED, PLAN, links, &gate) else {
+    let Some(ran) = run_whole(&rt, rt.alloc(), &COVERED, PLAN, links, &counted) else {
         return Err(Fail::new("memory ran out"));
     };
     // (with the registry's own)
     assert_eq!(rt; ran.came.books, 2);
-    assert_eq!(rt; gate.entries.load(Ordering::SeqCst), ran.entries);
+    assert_eq!(rt; counted.entries.load(Ordering::SeqCst), ran.entries);
     Ok(())
 }

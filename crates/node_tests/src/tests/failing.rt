@@ -26,6 +26,8 @@ const PLAN: Plan = Plan {
     turns: 1_000_000,
     timing: SOON,
     entries: 1_000_000,
+    restarts: 0,
+    limit: None,
 };
 
 #[test]

@@ -9,7 +9,7 @@ use std::alloc::{AllocError, Global};
 use std::sync::atomic::{AtomicU64, Ordering};
 use std::sync::{Arc, Wait};
 use std::thread;
-use udp_node::{Gate, Link, LinkFault, MemoryLink};
+use udp_node::{Follower, Gate, Link, LinkFault, MemoryLink};
 
 /// Which call of a link fails, counted from 1.
 #[derive(Clone, Copy, Debug, PartialEq, Eq)]
@@ -147,6 +147,6 @@ impl Gate for AfterFault {
         }
         false
     }
-
-    fn posted(&self, _worker: u8, _job: &Job) {}
 }
+
+impl Follower for AfterFault {}

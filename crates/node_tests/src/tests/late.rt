@@ -13,7 +13,7 @@ use std::sync::atomic::{AtomicBool, Ordering};
 use std::sync::{Arc, Wait};
 use std::test::Fail;
 use std::thread;
-use udp_node::{EndCause, Gate, Link, LinkFault, MemoryLink, Plan, SiteEnd};
+use udp_node::{EndCause, Follower, Gate, Link, LinkFault, MemoryLink, Plan, SiteEnd};
 
 /// One node of one worker, whose first job is the whole search.
 const PLAN: Plan = Plan {
@@ -24,6 +24,8 @@ const PLAN: Plan = Plan {
     turns: 1_000_000,
     timing: SOON,
     entries: 1_000_000,
+    restarts: 0,
+    limit: None,
 };
 
 /// How far the run has come.
@@ -68,21 +70,19 @@ impl Stages {
     }
 }
 
-/// A gate that notes the stages.
+/// Lets all pass, and notes the stages.
 #[derive(Drop)]
 struct Notes {
     stages: Arc<Stages, Global>,
 }
 
 impl Gate for Notes {
-    fn pass(&self, _worker: u8, _job: &Job) -> bool {
-        true
-    }
-
     fn posted(&self, _worker: u8, _job: &Job) {
         self.stages.is_posted.store(true, Ordering::SeqCst);
     }
+}
 
+impl Follower for Notes {
     fn ended(&self, node: u8, _end: &SiteEnd) {
         if node == 0 {
             self.stages.is_left.store(true, Ordering::SeqCst);

@@ -14,7 +14,7 @@ use std::sync::Wait;
 use std::test::Fail;
 use std::thread::{self, Threads};
 use std::time::{Clock, Duration, Instant};
-use udp_node::{Gate, Plan, RunPlan, run_sites};
+use udp_node::{Follower, Gate, Plan, run_sites};
 
 /// A gate that lets nobody pass: no result is posted.
 struct Shut;
@@ -24,9 +24,9 @@ impl Gate for Shut {
         thread::yield_now();
         false
     }
-
-    fn posted(&self, _worker: u8, _job: &Job) {}
 }
+
+impl Follower for Shut {}
 
 /// Two nodes whose turns last for years, and which are never thought silent.
 const PLAN: Plan = Plan {
@@ -37,6 +37,8 @@ const PLAN: Plan = Plan {
     turns: u64::MAX,
     timing: SOON,
     entries: 1_000_000,
+    restarts: 0,
+    limit: None,
 };
 
 /// How long the run may last, in milliseconds.
@@ -56,12 +58,12 @@ fn run<J: Run + Send + Sync, R: Threads + Wait + Clock + Sync>(
     requires nodes { J.run.nodes ≡ 2 }
 {
     let links = wires(alloc, PLAN.nodes)?;
-    let run_plan = RunPlan {
-        plan: PLAN,
+    let plan = Plan {
         restarts,
         limit: Some(Duration::from_millis(LIMIT)),
+        ..PLAN
     };
-    let end = run_sites::<J, _, _, R>(rt, alloc, problem, run_plan, links, &Shut)?;
+    let end = run_sites::<J, _, _, R>(rt, alloc, problem, plan, links, &Shut)?;
     Ok((end.answer.is_none(), end.books.len()))
 }
 

@@ -13,7 +13,7 @@ use dlx_reader::read_problem;
 use node_core::{Event, NodeCore};
 use packet_wire::{Body, Packet, write_packet};
 use run_book::{CellName, CellParts, Entry, Run, SiteCell, cores_step_as_their_sites};
-use spawn_frame::{Job, Site};
+use spawn_frame::Site;
 use std::alloc::{AllocError, Global};
 use std::marker::Brand;
 use std::sync::atomic::{AtomicU64, Ordering};
@@ -21,7 +21,7 @@ use std::sync::{Arc, Wait};
 use std::test::Fail;
 use std::thread::{self, Threads};
 use std::time::Clock;
-use udp_node::{EndCause, Gate, Link, LinkFault, Plan, Timing, run_node};
+use udp_node::{EndCause, Follower, Gate, Link, LinkFault, Plan, Timing, run_node};
 
 /// How many turns a send waits at most.
 const TURNS: u64 = 100_000_000;
@@ -160,6 +160,8 @@ const PLAN: Plan = Plan {
     turns: 100_000,
     timing: SOON,
     entries: 1_000_000,
+    restarts: 0,
+    limit: None,
 };
 
 /// What a node has room for.
@@ -200,7 +202,7 @@ pub struct Ended {
     pub visits_below: u64,
 }
 
-/// A gate that lets all pass, and counts searches and their visits.
+/// Lets all pass, and counts searches and the visits that they make.
 #[derive(Drop)]
 struct Counting {
     begun: AtomicU64,
@@ -208,21 +210,17 @@ struct Counting {
     most_below: AtomicU64,
 }
 
-impl Gate for Counting {
-    fn pass(&self, _worker: u8, _job: &Job) -> bool {
-        true
-    }
+impl Gate for Counting {}
 
-    fn posted(&self, _worker: u8, _job: &Job) {}
-
+impl Follower for Counting {
     fn begun(&self) {
         self.begun.fetch_add(1, Ordering::SeqCst);
     }
 
-    fn searched(&self, finding: &Finding, visits: u64) {
-        self.most.fetch_max(visits, Ordering::SeqCst);
+    fn searched(&self, finding: &Finding, made: u64) {
+        self.most.fetch_max(made, Ordering::SeqCst);
         if !finding.prefix().is_empty() {
-            self.most_below.fetch_max(visits, Ordering::SeqCst);
+            self.most_below.fetch_max(made, Ordering::SeqCst);
         }
     }
 }

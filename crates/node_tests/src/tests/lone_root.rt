@@ -31,6 +31,8 @@ const PLAN: Plan = Plan {
     turns: 100,
     timing: SOON_SILENT,
     entries: 1_000,
+    restarts: 0,
+    limit: None,
 };
 
 /// What the registry came to.

@@ -4,7 +4,7 @@
 ghost use Rattle.std.specs.Prelude.{◌≡◌, ◌+◌, ◌≤◌, ℕ, length, vec_len, IfOk, IfSome};
 
 use super::ends::wires;
-use super::runs::{BARE, COVERED, Told, run_incarnations, run_plan};
+use super::runs::{BARE, COVERED, Told, run_whole};
 use super::timings::SOON;
 use packet_wire::{Body, read_packet};
 use std::alloc::{AllocError, Global};
@@ -142,6 +142,8 @@ const PLAN: Plan = Plan {
     turns: 1_000_000,
     timing: SOON,
     entries: 1_000_000,
+    restarts: 0,
+    limit: None,
 };
 
 #[test]
@@ -152,14 +154,8 @@ fn what_was_lost_is_said_again(rt: HostRuntime) -> Result<(), Fail> {
         for (row, restarts) in [(&COVERED, 0), (&BARE, 0), (&COVERED, 2), (&BARE, 2)] {
             let sent = Arc::new(alloc, AtomicU64::new(0))?;
             let links = links_that_lose(alloc, PLAN.nodes, kind, &sent)?;
-            let Some(ran) = run_incarnations(
-                &rt,
-                alloc,
-                row,
-                run_plan(PLAN, restarts),
-                links,
-                &Open,
-            ) else {
+            let plan = Plan { restarts, ..PLAN };
+            let Some(ran) = run_whole(&rt, alloc, row, plan, links, &Open) else {
                 return Err(Fail::new("memory ran out"));
             };
             assert_eq!(rt; ran.came.told, Told::Right, "{kind:?}, {restarts} restarts");

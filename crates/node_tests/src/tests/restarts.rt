@@ -6,14 +6,14 @@
 
 use super::broken::{Defect, links_with};
 use super::ends::wires;
-use super::runs::{COVERED, Came, Told, run_incarnations, run_plan};
+use super::runs::{COVERED, Came, Told, run_whole};
 use super::timings::SOON;
 use packet_wire::{Body, Packet};
 use run_probes::recorded;
 use spawn_frame::{Job, Site, Unit};
 use std::sync::{Arc, Mutex};
 use std::test::Fail;
-use udp_node::{Gate, Open, Plan, Timing};
+use udp_node::{Follower, Gate, Open, Plan, Timing};
 
 /// A gate that lets no first attempt at a guest pass: who takes the root in that attempt never posts it.
 struct HeldRoot;
@@ -22,9 +22,9 @@ impl Gate for HeldRoot {
     fn pass(&self, _worker: u8, job: &Job) -> bool {
         !matches!(job.unit, Unit::Guest(_, 1))
     }
-
-    fn posted(&self, _worker: u8, _job: &Job) {}
 }
+
+impl Follower for HeldRoot {}
 
 /// One node with one worker, whose turns are soon over.
 const PLAN: Plan = Plan {
@@ -35,20 +35,16 @@ const PLAN: Plan = Plan {
     turns: 20_000,
     timing: SOON,
     entries: 1_000_000,
+    restarts: 0,
+    limit: None,
 };
 
 #[test]
 fn a_restart_frees_the_root(rt: HostRuntime) -> Result<(), Fail> {
     for (restarts, told, books) in [(0, Told::Nothing, 2), (1, Told::Right, 3)] {
         let links = wires(rt.alloc(), PLAN.nodes)?;
-        let Some(ran) = run_incarnations(
-            &rt,
-            rt.alloc(),
-            &COVERED,
-            run_plan(PLAN, restarts),
-            links,
-            &HeldRoot,
-        ) else {
+        let plan = Plan { restarts, ..PLAN };
+        let Some(ran) = run_whole(&rt, rt.alloc(), &COVERED, plan, links, &HeldRoot) else {
             return Err(Fail::new("memory ran out"));
         };
         assert_eq!(rt; ran.came, Came { told, books }, "{restarts} restarts");
@@ -71,17 +67,11 @@ fn any_number_of_restarts(rt: HostRuntime) -> Result<(), Fail> {
             workers: 2,
             nodes: 2,
             turns,
+            restarts,
             ..PLAN
         };
         let links = wires(rt.alloc(), plan.nodes)?;
-        let Some(ran) = run_incarnations(
-            &rt,
-            rt.alloc(),
-            &COVERED,
-            run_plan(plan, restarts),
-            links,
-            &Open,
-        ) else {
+        let Some(ran) = run_whole(&rt, rt.alloc(), &COVERED, plan, links, &Open) else {
             return Err(Fail::new("memory ran out"));
         };
         let Came { told, books } = ran.came;
@@ -110,6 +100,7 @@ fn an_incarnation_that_hears_nothing_ends_after_its_turns(rt: HostRuntime) -> Re
     let alloc = rt.alloc();
     let plan = Plan {
         turns: 500,
+        restarts: 1,
         timing: Timing {
             greeting: 300,
             silence: 1_500,
@@ -120,7 +111,7 @@ fn an_incarnation_that_hears_nothing_ends_after_its_turns(rt: HostRuntime) -> Re
     let sent = Arc::new(alloc, Mutex::new(Vec::new(alloc)))?;
     let mute = links_with(alloc, plan.nodes, 0, Defect::Mute)?;
     let links = recorded(alloc, mute, &sent)?;
-    let Some(ran) = run_incarnations(&rt, alloc, &COVERED, run_plan(plan, 1), links, &Open) else {
+    let Some(ran) = run_whole(&rt, alloc, &COVERED, plan, links, &Open) else {
         return Err(Fail::new("memory ran out"));
     };
     assert_eq!(rt; ran.came.told, Told::Nothing);

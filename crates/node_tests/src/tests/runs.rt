@@ -10,7 +10,7 @@ use std::marker::Brand;
 use std::sync::Wait;
 use std::thread::Threads;
 use std::time::Clock;
-use udp_node::{Gate, Link, Plan, RunPlan, SiteEnd, run_sites};
+use udp_node::{Follower, Gate, Link, Plan, SiteEnd, run_sites};
 
 /// A problem with its one cover, or none.
 pub type Row = (&'static str, Option<&'static [u16]>);
@@ -56,7 +56,7 @@ pub struct Ran {
 }
 
 /// Runs a search of the row's problem over these links; none where memory ran out.
-pub fn run<L: Link + Send, G: Gate + Sync, R: Threads + Wait + Clock + Sync>(
+pub fn run<L: Link + Send, G: Gate + Follower + Sync, R: Threads + Wait + Clock + Sync>(
     rt: &R,
     alloc: Global,
     row: &Row,
@@ -72,7 +72,7 @@ pub fn run<L: Link + Send, G: Gate + Sync, R: Threads + Wait + Clock + Sync>(
 }
 
 /// Runs a search, as `run` does, and reports its sites' ends too.
-pub fn run_whole<L: Link + Send, G: Gate + Sync, R: Threads + Wait + Clock + Sync>(
+pub fn run_whole<L: Link + Send, G: Gate + Follower + Sync, R: Threads + Wait + Clock + Sync>(
     rt: &R,
     alloc: Global,
     row: &Row,
@@ -84,38 +84,12 @@ pub fn run_whole<L: Link + Send, G: Gate + Sync, R: Threads + Wait + Clock + Syn
     requires most { plan.nodes ≤ 16 }
     requires links { vec_len links ≡ plan.nodes + 1 }
 {
-    run_incarnations(rt, alloc, row, RunPlan::new(plan), links, gate)
-}
-
-/// A run of this plan in which node 1 restarts so many times.
-pub fn run_plan(plan: Plan, restarts: u8) -> RunPlan
-    ensures { result.plan ≡ plan }
-{
-    RunPlan {
-        restarts,
-        ..RunPlan::new(plan)
-    }
-}
-
-/// The same as `run_whole`, of a run that may have restarts.
-pub fn run_incarnations<L: Link + Send, G: Gate + Sync, R: Threads + Wait + Clock + Sync>(
-    rt: &R,
-    alloc: Global,
-    row: &Row,
-    run_plan: RunPlan,
-    links: Vec<L>,
-    gate: &G,
-) -> Option<Ran>
-    requires some { 1 ≤ run_plan.plan.nodes }
-    requires most { run_plan.plan.nodes ≤ 16 }
-    requires links { vec_len links ≡ run_plan.plan.nodes + 1 }
-{
     let read = read_problem(alloc, row.0.as_bytes()).ok()?;
     let case = Case {
         problem: &read.problem,
         cover: row.1,
     };
-    search::<Brand, L, G, R>(rt, alloc, case, run_plan, links, gate)
+    search::<Brand, L, G, R>(rt, alloc, case, plan, links, gate)
 }
 
 /// A problem that was read, with its one cover, or none.
@@ -126,21 +100,19 @@ struct Case<'a> {
 }
 
 /// Runs a search of the problem, in a run with a name.
-fn search<J: Run + Send + Sync, L: Link + Send, G: Gate + Sync, R: Threads + Wait + Clock + Sync>(
-    rt: &R,
-    alloc: Global,
-    case: Case<'_>,
-    run_plan: RunPlan,
-    links: Vec<L>,
-    gate: &G,
-) -> Option<Ran>
+fn search<
+    J: Run + Send + Sync,
+    L: Link + Send,
+    G: Gate + Follower + Sync,
+    R: Threads + Wait + Clock + Sync,
+>(rt: &R, alloc: Global, case: Case<'_>, plan: Plan, links: Vec<L>, gate: &G) -> Option<Ran>
     requires problem { case.problem.now ≡ J.run.problem }
-    requires nodes { run_plan.plan.nodes ≡ J.run.nodes }
-    requires some { 1 ≤ run_plan.plan.nodes }
-    requires most { run_plan.plan.nodes ≤ 16 }
-    requires links { vec_len links ≡ run_plan.plan.nodes + 1 }
+    requires nodes { plan.nodes ≡ J.run.nodes }
+    requires some { 1 ≤ plan.nodes }
+    requires most { plan.nodes ≤ 16 }
+    requires links { vec_len links ≡ plan.nodes + 1 }
 {
-    let end = run_sites::<J, L, G, R>(rt, alloc, case.problem, run_plan, links, gate).ok()?;
+    let end = run_sites::<J, L, G, R>(rt, alloc, case.problem, plan, links, gate).ok()?;
     let came = Came {
         told: judged(end.answer.as_ref(), case.cover),
         books: end.books.len(),

@@ -281,6 +281,8 @@ fn rooms(rt: HostRuntime) -> Result<(), Fail> {
             turns: 1,
             timing: Timing::USUAL,
             entries: 1,
+            restarts: 0,
+            limit: None,
         };
         assert_eq!(rt; room_for(plan), megabytes << 20, "{nodes} x {workers}");
     }

@@ -35,6 +35,8 @@ const PLAN: Plan = Plan {
         ..SOON
     },
     entries: 1_000_000,
+    restarts: 0,
+    limit: None,
 };
 
 /// What a slow link and a second thread tell each other.

@@ -26,6 +26,8 @@ const PLAN: Plan = Plan {
     turns: 10_000_000,
     timing: SOON,
     entries: 1_000_000,
+    restarts: 0,
+    limit: None,
 };
 
 /// What a run comes to whose workers post nothing until this was sent, and all that was sent in it.

@@ -24,6 +24,8 @@ const PLAN: Plan = Plan {
     turns: 1_000_000,
     timing: SOON,
     entries: 1_000_000,
+    restarts: 0,
+    limit: None,
 };
 
 /// Sends the registry, from a socket that is none of the run's, what its first node would: that it asks for work, and that the root

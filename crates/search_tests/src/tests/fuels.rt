@@ -58,8 +58,8 @@ fn come_to_each<R: Abort>(
     visits: u64,
     first: &[u16],
 ) -> bool {
-    let mut one = Searcher::over(alloc, tables).expect(rt, "memory");
-    let mut other = Searcher::over(alloc, tables).expect(rt, "memory");
+    let mut one = Searcher::of_tables(alloc, tables).expect(rt, "memory");
+    let mut other = Searcher::of_tables(alloc, tables).expect(rt, "memory");
     comes_to_each(&mut one, visits, first) && comes_to_each(&mut other, visits, first)
 }
 

@@ -51,7 +51,7 @@ fn ends_over<R: Abort>(
     visits: u64,
     first: &[u16],
 ) -> bool {
-    let mut searcher = Searcher::over(alloc, tables).expect(rt, "memory");
+    let mut searcher = Searcher::of_tables(alloc, tables).expect(rt, "memory");
     takes(&mut searcher, visits, first)
 }
 

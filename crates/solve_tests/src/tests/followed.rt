@@ -16,7 +16,7 @@ use std::sync::Wait;
 use std::test::Fail;
 use std::thread;
 use std::time::{Clock, Duration};
-use udp_node::{EndCause, Gate, SiteEnd};
+use udp_node::{EndCause, Follower, SiteEnd};
 
 /// The end of a site by this cause, whose threads all began or not.
 fn ended(cause: EndCause, is_manned: bool) -> SiteEnd {

@@ -24,7 +24,7 @@ use std::sync::atomic::{AtomicU64, Ordering};
 use std::test::Fail;
 use std::thread::{self, Threads};
 use std::time::{Clock, Duration};
-use udp_node::Gate;
+use udp_node::{Follower, Gate};
 
 /// A gate that holds each result back until it was asked so often in all, and waits a while when it is asked first.
 #[derive(Drop)]
@@ -61,19 +61,19 @@ impl<R: Clock> Gate for Slow<'_, R> {
         }
         asked >= self.refusals
     }
+}
 
-    fn posted(&self, _worker: u8, _job: &Job) {}
-
-    fn searched(&self, finding: &Finding, visits: u64) {
+impl<R: Clock> Follower for Slow<'_, R> {
+    fn searched(&self, finding: &Finding, made: u64) {
         self.fuel.fetch_max(finding.fuel(), Ordering::SeqCst);
-        self.visits.fetch_max(visits, Ordering::SeqCst);
+        self.visits.fetch_max(made, Ordering::SeqCst);
     }
 }
 
 /// Whether a run of a problem publishes an answer.
 fn is_answered<
     J: Run + Send + Sync,
-    G: Gate + Sync,
+    G: Gate + Follower + Sync,
     R: Threads + Wait + Clock + Net + RandomSource + Sync,
 >(rt: &R, alloc: Global, settings: &Settings<'_>, problem: &Problem, gate: &G) -> Result<bool, Fail>
     requires problem { problem.now ≡ J.run.problem }
@@ -85,7 +85,7 @@ fn is_answered<
 }
 
 /// The same in a run with a name.
-pub fn answers<G: Gate + Sync, R: Threads + Wait + Clock + Net + RandomSource + Sync>(
+pub fn answers<G: Gate + Follower + Sync, R: Threads + Wait + Clock + Net + RandomSource + Sync>(
     rt: &R,
     alloc: Global,
     text: &str,

@@ -23,7 +23,7 @@ use std::sync::{Arc, Mutex, Wait};
 use std::test::Fail;
 use std::thread::Threads;
 use std::time::Clock;
-use udp_node::{Gate, Link};
+use udp_node::{Follower, Gate, Link};
 
 /// The one cover of the first row.
 const COVER: [u16; 3] = [0, 3, 4];
@@ -46,7 +46,12 @@ fn is_covered(answer: Option<&Answer>) -> bool {
 }
 
 /// Whether a run publishes the cover of the row's problem, and leaves a book of each site.
-fn covers<J: Run + Send + Sync, L: Link + Send, G: Gate + Sync, R: Threads + Wait + Clock + Sync>(
+fn covers<
+    J: Run + Send + Sync,
+    L: Link + Send,
+    G: Gate + Follower + Sync,
+    R: Threads + Wait + Clock + Sync,
+>(
     rt: &R,
     alloc: Global,
     settings: &Settings<'_>,
@@ -64,13 +69,10 @@ fn covers<J: Run + Send + Sync, L: Link + Send, G: Gate + Sync, R: Threads + Wai
 }
 
 /// The same over sockets of their own, with a list of what is sent.
-fn covers_recorded<G: Gate + Sync, R: Threads + Wait + Clock + Net + RandomSource + Sync>(
-    rt: &R,
-    alloc: Global,
-    settings: &Settings<'_>,
-    gate: &G,
-    sent: &Sent,
-) -> Result<bool, Fail> {
+fn covers_recorded<
+    G: Gate + Follower + Sync,
+    R: Threads + Wait + Clock + Net + RandomSource + Sync,
+>(rt: &R, alloc: Global, settings: &Settings<'_>, gate: &G, sent: &Sent) -> Result<bool, Fail> {
     let read = read_problem(alloc, ROWS[0].0.as_bytes())?;
     let links = recorded(
         alloc,

@@ -8,7 +8,7 @@ use spawn_frame::Job;
 use std::alloc::{AllocError, Global};
 use std::sync::atomic::{AtomicU64, Ordering};
 use std::test::Fail;
-use udp_node::Gate;
+use udp_node::{Follower, Gate};
 
 /// How many rows and columns the board has: its search has more visits than one job may have.
 const SIDE: u32 = 14;
@@ -59,10 +59,6 @@ struct Posts {
 }
 
 impl Gate for Posts {
-    fn pass(&self, _worker: u8, _job: &Job) -> bool {
-        true
-    }
-
     fn posted(&self, worker: u8, _job: &Job) {
         let number = u64::from(worker) + 1;
         let _ = self
@@ -76,6 +72,8 @@ impl Gate for Posts {
         posts.fetch_add(1, Ordering::SeqCst);
     }
 }
+
+impl Follower for Posts {}
 
 #[test]
 fn one_worker_is_enough(rt: HostRuntime) -> Result<(), Fail> {

@@ -112,7 +112,7 @@ fn compare_prefixes(
     seen: &mut Seen,
 ) -> Result<(), AllocError> {
     let room = ROOMS[below(rng, 5) as usize];
-    let mut plain = Searcher::over(alloc, tables)?;
+    let mut plain = Searcher::of_tables(alloc, tables)?;
     let mut keeping = Searcher::keeping(alloc, tables, room)?;
     for _ in 0..PREFIXES {
         let prefix = drawn_prefix(alloc, problem, rng)?;

@@ -3,7 +3,7 @@
 ghost use Rattle.std.specs.Prelude.{◌<◌, ◌≤◌, length};
 ghost use Rattle.spawn_frame.specs.declared.site.TheConstants.{LAST_NODE};
 
-use crate::worlds::told::{BodyText, OptionsText, SiteText, StatusText, UnitText};
+use crate::worlds::texts::{BodyText, OptionsText, SiteText, StatusText, UnitText};
 use cover_problem::{Answer, Problem};
 use cover_world::{World, WorldEvent, WorldFault};
 use node_core::Reply;

@@ -19,7 +19,7 @@ returns-clause-output g c =
     let new = g.W.Write.contents c.write_audited.new.sink in
     let problem : c.args.task.problem.now ≡ run.problem = sym (ap (λ (r : RunName). r.problem) c.requires.run) in
     let shown : option_map (λ answer. answer.now) c.as_ref.result ≡ answer = c.as_ref.ensures.value in
-    let end : IsRunEnd run answer books = subst (IsRunEnd run answer) (sym c.deref.ensures.value) c.in_ok-end.ensures.told in
+    let end : IsRunEnd run answer books = subst (IsRunEnd run answer) (sym c.deref.ensures.value) c.in_ok-end.ensures.run_end in
     let Writes : Problem → Option Answer → Type 0 = λ problem answer. IsOutput (audited_said problem answer found) old new c.write_audited.result in
     let written = subst (λ (p : Problem). Writes p answer) problem (subst (Writes c.args.task.problem.now) shown c.write_audited.ensures.output) in
     audited_output run answer books found old new c.write_audited.result end

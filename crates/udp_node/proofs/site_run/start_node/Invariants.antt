@@ -1,7 +1,7 @@
 use Rattle.udp_node.proofs.site_run.start_node.Given as goal
 
-abbrev pub ghosts-run_worker_node-N-Ledger : goal.ghosts-run_worker_node-N-Ledger
-ghosts-run_worker_node-N-Ledger g a = record { name = a.cell_parts.name; parts = 18446744073709551615 }
+abbrev pub ghosts-run_core-N-Ledger : goal.ghosts-run_core-N-Ledger
+ghosts-run_core-N-Ledger g a = record { name = a.cell_parts.name; parts = 18446744073709551615 }
 
-abbrev pub ghosts-run_worker_node-N-CellName : goal.ghosts-run_worker_node-N-CellName
-ghosts-run_worker_node-N-CellName g a = record { table = a.cell_parts.table; site = a.core.view.site; limit = 1000000 }
+abbrev pub ghosts-run_core-N-CellName : goal.ghosts-run_core-N-CellName
+ghosts-run_core-N-CellName g a = record { table = a.cell_parts.table; site = a.core.view.site; limit = 1000000 }

@@ -26,7 +26,7 @@ struct Pivot {
 
 /// Vectors of weights modulo a small number: at first of each item alone, then such that each option that was added weighs 0.
 #[derive(Drop)]
-pub struct Kernel {
+pub struct NullSpace {
     modulus: u8,
     /// Of each primary item what it weighs in each vector.
     items: Vec<Line>,
@@ -101,9 +101,9 @@ fn factor_for(modulus: u8, pivot: Pivot, sum: u8) -> u8
     }
 }
 
-impl Kernel {
+impl NullSpace {
     /// Of each item a vector in which it alone weighs 1; the only error is out of memory.
-    pub fn new(alloc: Global, modulus: u8, count: usize) -> Result<Kernel, AllocError> {
+    pub fn new(alloc: Global, modulus: u8, count: usize) -> Result<NullSpace, AllocError> {
         let mut items = Vec::with_capacity(alloc, count)?;
         for item in 0..count {
             let mut line = Line::zeros(alloc, count)?;
@@ -112,7 +112,7 @@ impl Kernel {
         }
         let mut wholes = Line::zeros(alloc, count)?;
         wholes.fill(1);
-        Ok(Kernel {
+        Ok(NullSpace {
             modulus,
             items,
             wholes,

@@ -1,5 +1,5 @@
 use Rattle.cover_reasons.specs.declared.reason.Reason.TheVariants as reasons
-use Rattle.cover_reasons.proofs.reason_finder.find_reason_until.Goals as goal
+use Rattle.cover_reasons.proofs.reason_finder.find_short_reason_until.Goals as goal
 
 pub returns-in-Some-clause-barren : goal.returns-in-Some-clause-barren
 returns-in-Some-clause-barren g c = λ chosen cover over.

@@ -96,9 +96,9 @@ fn write_child<W: fmt::Write, T: fmt::Display>(
     kind: &str,
     serial: u32,
     attempt: Attempt,
-    told: &T,
+    text: &T,
 ) -> fmt::Result {
-    write!(f, "{kind} {serial}, attempt {attempt}, {told}")
+    write!(f, "{kind} {serial}, attempt {attempt}, {text}")
 }
 
 /// What a packet says.

@@ -1,0 +1,41 @@
+//! Rows of whole numbers.
+
+ghost use Rattle.std.specs.Prelude.{◌≡◌};
+
+use std::alloc::{AllocError, Global};
+
+/// Numbers side by side, 0 past the end.
+#[derive(Drop)]
+pub(crate) struct Row {
+    numbers: Vec<u16>,
+}
+
+impl Row {
+    /// So many zeros; the only error is out of memory.
+    pub(crate) fn zeros(alloc: Global, count: usize) -> Result<Row, AllocError> {
+        Ok(Row {
+            numbers: vec![in alloc; 0; count]?,
+        })
+    }
+
+    /// The number at a place, 0 past the end.
+    pub(crate) fn at(&self, place: usize) -> u16 {
+        match self.numbers.get(place) {
+            Some(number) => *number,
+            None => 0,
+        }
+    }
+
+    /// Puts a number at a place, if there is one.
+    pub(crate) fn put(&mut self, place: usize, number: u16) {
+        if place < self.numbers.len() {
+            self.numbers[place] = number;
+        }
+    }
+
+    /// The numbers, as a list.
+    pub(crate) fn into_vec(self) -> Vec<u16> {
+        let Row { numbers } = self;
+        numbers
+    }
+}
