@@ -1,6 +1,6 @@
 """Where the built programs are, and what a script prints if one is missing. For the scripts and benches that run them.
 
-It puts the folder python on the path, so that a script imports it before the package zarfepoch.
+It puts the folder python/src on the path, so that a script imports it before the package zarfepoch.
 """
 from __future__ import annotations
 
@@ -9,7 +9,7 @@ import shutil
 import sys
 
 TOP = os.path.dirname(os.path.dirname(os.path.abspath(__file__)))
-sys.path.insert(0, os.path.join(TOP, "python"))
+sys.path.insert(0, os.path.join(TOP, "python", "src"))
 from zarfepoch.command_words import number_from_one as number_from_one, parser_of as parser_of  # noqa: E402
 from zarfepoch.cover_files import stop as stop  # noqa: E402
 

@@ -32,7 +32,7 @@ from collections.abc import Iterator
 from built import TOP, parser_of, stop
 
 CODE = ("crates", "scripts", "bench", "examples", "python")
-PASSED = {".git", "out", "__pycache__"}
+PASSED = {".git", "out", "__pycache__", "build"}
 ENDINGS = (".md", ".rt", ".antt", ".py", ".dlx", ".edit", ".csv", ".svg", ".c", ".txt")
 # of the system or the language, so not in the code
 KNOWN = {"/dev/stdin"}
@@ -48,7 +48,7 @@ TABLES = {"docs/SOLVE.md": "solve", "docs/SIMULATE.md": "simulate"}
 ALL_COMMANDS = "docs/COMMANDS.md"
 # where the version stands, each with what stands around it; it is the same in all
 VERSIONS = {
-    "crates/command_line/src/commands.rt": r'^const VERSION: &str = "(.*)";$', "python/zarfepoch/__init__.py": r'^__version__ = "(.*)"$',
+    "crates/command_line/src/commands.rt": r'^const VERSION: &str = "(.*)";$', "python/src/zarfepoch/__init__.py": r'^__version__ = "(.*)"$',
     "CITATION.cff": r"^version: (.*)$", "CHANGELOG.md": r"^## ([0-9.]+)\b"}
 # the number of a line and what is wrong there
 Mistake = tuple[int, str]
@@ -108,7 +108,7 @@ class Repository:
 
     def has_path(self, path: str) -> bool:
         """Whether some path ends so, at the beginning of a name."""
-        parts = path.strip("/").split("/")
+        parts = path.removeprefix("./").strip("/").split("/")
         pattern = "/".join("[^/]+" if part.isupper() else re.escape(part) for part in parts)
         ends = re.compile(rf"(^|/){pattern}(\.antt)?$")
         return any(ends.search(known) for known in self.paths)

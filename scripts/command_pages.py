@@ -47,7 +47,7 @@ def printed(name: str, words: list[str]) -> str:
     """What a command prints for these words and `--help`."""
     code = f"import sys; sys.argv[0] = {name!r}; from zarfepoch.commands import command_of; command_of({COMMANDS[name]!r})()"
     ran = subprocess.run([sys.executable, "-c", code, *words, "--help"], capture_output=True, text=True,
-                         env={**os.environ, "PYTHONPATH": os.path.join(TOP, "python"), "COLUMNS": "10000"})
+                         env={**os.environ, "PYTHONPATH": os.path.join(TOP, "python", "src"), "COLUMNS": "10000"})
     if ran.returncode != 0:
         stop(f"the help of {name} ends with status {ran.returncode}: {ran.stderr}")
     return ran.stdout

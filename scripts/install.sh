@@ -131,7 +131,7 @@ for name in solve_cli $commands; do
     shown 644 "$pages/_$name" "$zsh/_$name"
 done
 rm -rf -- "$prefix/$share/zarfepoch"
-for file in "$top"/python/zarfepoch/*.py "$top"/python/zarfepoch/py.typed; do
+for file in "$top"/python/src/zarfepoch/*.py "$top"/python/src/zarfepoch/py.typed; do
     put 644 "$file" "$share/zarfepoch/$(basename "$file")"
 done
 echo "$prefix/$share/zarfepoch"

@@ -1,5 +1,5 @@
 #!/usr/bin/env python3
-"""Tries the package zarfepoch: its examples, what it raises, its files, and what `pip install .` puts in place.
+"""Tries the package zarfepoch: its examples, what it raises, its files, and what pip puts in place.
 
     python3 scripts/try_python.py [--program PROGRAM]
 
@@ -15,6 +15,7 @@ from __future__ import annotations
 
 import contextlib
 import doctest
+import glob
 import itertools
 import os
 import random
@@ -348,13 +349,25 @@ def ran(*words: str, **how: object) -> str:
     return str(ended.stdout)
 
 
+def old_python(wheel: str, folder: str) -> None:
+    """pip tells a Python that is too old."""
+    old = (shutil.which(name) for name in ("python3.8", os.path.expanduser("~/.pyenv/versions/3.8.18/bin/python")))
+    for python in (one for one in old if one and subprocess.run([one, "--version"], capture_output=True).returncode == 0):
+        ended = subprocess.run([python, "-m", "pip", "install", "--no-index", "--no-deps", "--target", os.path.join(folder, "old"), wheel], cwd=folder,
+                               capture_output=True, text=True)
+        expect(f"an old Python: {ended.stderr}", ended.returncode == 1 and "not in '>=3.9'" in ended.stderr)
+
+
 def installed(folder: str) -> None:
-    """The package in an environment of its own."""
-    place, elsewhere = os.path.join(folder, "environment"), os.path.join(folder, "elsewhere")
+    """The package in an environment of its own, from a copy of the folder python, in which setuptools leaves what it builds."""
+    place, elsewhere, source = (os.path.join(folder, name) for name in ("environment", "elsewhere", "python"))
     python, offline = os.path.join(place, "bin", "python"), {**os.environ, "PIP_NO_INDEX": "1", "PIP_DISABLE_PIP_VERSION_CHECK": "1"}
+    install = [python, "-m", "pip", "install", "--no-build-isolation"]
+    shutil.copytree(os.path.join(TOP, "python"), source, ignore=shutil.ignore_patterns("build", "*.egg-info", "__pycache__"))
     os.mkdir(elsewhere)
-    ran(sys.executable, "-m", "venv", place)
-    ran(python, "-m", "pip", "install", TOP, cwd=elsewhere, env=offline)
+    # (with the system's packages, since setuptools wants its own package wheel)
+    ran(sys.executable, "-m", "venv", "--system-site-packages", place)
+    ran(*install, source, cwd=elsewhere, env=offline)
     version = zarfepoch.__version__
     said = ran(python, "-c", CALL, cwd=elsewhere)
     expect(f"a call of what is installed: {said}", said.startswith(f"{version} [1] {place}"))
@@ -372,16 +385,20 @@ def installed(folder: str) -> None:
         expect(f"{command}: {said}", said.startswith(f"usage: {os.path.basename(command)} ") and "scripts/" not in said)
     expect("the command zarfepoch", ran(os.path.join(place, "bin", "zarfepoch"), "--help", cwd=elsewhere).startswith("usage: zarfepoch "))
     expect("a problem that is made", ran(python, "-m", "zarfepoch.generate", "langford", "4", cwd=elsewhere).startswith("| Langford"))
+    about = ran(python, "-c", "import importlib.metadata; about = importlib.metadata.metadata('zarfepoch'); print(about['Version'], about['Requires-Python'])")
+    expect(f"what the package says of itself: {about}", about == f"{version} >=3.9\n")
     ran(python, "-m", "pip", "uninstall", "--yes", "zarfepoch", cwd=elsewhere, env=offline)
     left = [name for _, _, names in os.walk(place) for name in names if "zarfepoch" in name]
     expect(f"nothing is left: {left}", not left)
-    backend = "import sys; sys.path.insert(0, sys.argv[1]); import build_backend; print(build_backend.build_sdist(sys.argv[2]))"
-    archive = ran(python, "-c", backend, os.path.join(TOP, "python"), elsewhere).strip()
-    ran(python, "-m", "pip", "install", os.path.join(elsewhere, archive), cwd=elsewhere, env=offline)
+    backend = "import sys; from setuptools import build_meta; print(build_meta.build_sdist(sys.argv[1]))"
+    archive = ran(python, "-c", backend, elsewhere, cwd=source).split()[-1]
+    ran(*install, os.path.join(elsewhere, archive), cwd=elsewhere, env=offline)
     expect("installed from an archive", ran(python, "-c", CALL, cwd=elsewhere).startswith(f"{version} [1] {place}"))
-    ran(python, "-m", "pip", "install", "--force-reinstall", "--editable", TOP, cwd=elsewhere, env=offline)
-    ours = os.path.join(TOP, "python", "zarfepoch", "__init__.py")
+    ran(*install, "--force-reinstall", "--editable", source, cwd=elsewhere, env=offline)
+    ours = os.path.join(source, "src", "zarfepoch", "__init__.py")
     expect("installed to be edited", ran(python, "-c", CALL, cwd=elsewhere).rstrip().endswith(ours))
+    ran(python, "-m", "pip", "wheel", "--no-build-isolation", "--no-deps", source, cwd=elsewhere, env=offline)
+    old_python(glob.glob(os.path.join(elsewhere, "zarfepoch-*.whl"))[0], elsewhere)
 
 
 def is_alone(group: int) -> bool:
@@ -425,14 +442,6 @@ def processes_of(group: int, called: str = "") -> int:
     return count
 
 
-def old_python() -> None:
-    """A Python that is too old is told so by pip's own hook."""
-    old = (shutil.which(name) for name in ("python3.8", os.path.expanduser("~/.pyenv/versions/3.8.18/bin/python")))
-    for python in (one for one in old if one and subprocess.run([one, "--version"], capture_output=True).returncode == 0):
-        ended = subprocess.run([python, "-c", "import build_backend"], cwd=os.path.join(TOP, "python"), capture_output=True, text=True)
-        expect(f"an old Python: {ended.stderr}", ended.returncode == 1 and ended.stderr.startswith("zarfepoch needs Python 3.9"))
-
-
 def a_board() -> None:
     """A board of more prefixes than a limit of visits can count: that dominoes don't cover it is decided by a reason."""
     cells = {(row, column) for row in range(14) for column in range(14)} - {(0, 0), (13, 13)}
@@ -466,7 +475,6 @@ def main() -> int:
     for trials in (stub_answers, files, installed, killed):
         with tempfile.TemporaryDirectory() as folder:
             trials(folder)
-    old_python()
     a_board()
     a_call()
     return trial.end()

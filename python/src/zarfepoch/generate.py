@@ -98,7 +98,7 @@ Pieces = dict[str, list[str]]
 Note = Callable[[str], str]
 
 # where examples are written in a clone, and where the texts are that they are made from
-HERE = TEXTS = os.path.join(os.path.dirname(os.path.abspath(__file__)), "..", "..", "examples")
+HERE = TEXTS = os.path.join(os.path.dirname(os.path.abspath(__file__)), "..", "..", "..", "examples")
 # where the command line wants the problem, if not on the standard output
 OUT: list[str] = []
 # the exit status for a problem that is refused: 3 where it was made of a file

@@ -8,7 +8,7 @@ from typing import Optional
 
 from .errors import NoProgram
 
-CLONE = os.path.join(os.path.dirname(os.path.abspath(__file__)), "..", "..")
+CLONE = os.path.join(os.path.dirname(os.path.abspath(__file__)), "..", "..", "..")
 BUILT_HERE, UNPROVED_HERE = os.path.join(CLONE, "crates", "solve_cli", "out", "solve_cli"), os.path.join(CLONE, "unproved", "solve_cli")
 
 
