@@ -35,7 +35,7 @@ CODE = ("crates", "scripts", "bench", "examples", "python")
 PASSED = {".git", "out", "__pycache__", "build"}
 ENDINGS = (".md", ".rt", ".antt", ".py", ".dlx", ".edit", ".csv", ".svg", ".c", ".txt")
 # of the system or the language, so not in the code
-KNOWN = {"/dev/stdin"}
+KNOWN = {"/dev/stdin", "/usr/bin/python3"}
 # words that no page uses
 REFUSED = ("tells", "stands", "anew", "want of memory", "of which no clause speaks", "comes to", "told by")
 # words that no comment in crates uses

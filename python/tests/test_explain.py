@@ -1,16 +1,10 @@
-#!/usr/bin/env python3
 """Compares what explain.py says with what the built program says.
 
-    python3 scripts/try_explain.py [--files N] [--seed N] [--program PROGRAM]
-
-All examples, some outside cases, and a thousand random files, most of them spoilt, are given to both, then each file that
+All examples, some outside cases, and random files, most of them spoilt, are given to both, then each file that
 can be read once more with an answer: the program's own, a spoilt one, or a random choice of options. For each it compares
 the program's standard error (and the verdict of `check`) with the lines of explain.py that say what the program says, and
-the name and the line of the fault with those of the first fault that explain.py explains. Each kind of fault must have been
-met. What else it says is tested by a table of files with lines that were worked out by hand. The last line counts.
-
-It wants the program: (cd crates/solve_cli && rt run -- --version) builds it. The exit status is 0 where all agree, 1 where one differs, a
-line is missing or a kind of fault was never met, 2 for a mistake on the command line or where there is no program.
+the name and the line of the fault with those of the first fault that explain.py explains. With the thousand random files of the slow
+test each kind of fault must have been met. What else it says is tested by a table of files with lines that were worked out by hand.
 """
 from __future__ import annotations
 
@@ -19,15 +13,16 @@ import contextlib
 import glob
 import io
 import os
+import pathlib
 import random
 import re
 import subprocess
-import sys
-import tempfile
 from collections.abc import Iterator
 from typing import Optional
 
-from built import parser_of, SOLVE_CLI, TOP, want_program, path_of
+import pytest
+
+from built import TOP
 from zarfepoch import explain
 from zarfepoch.cover_files import shown
 
@@ -261,24 +256,21 @@ TOLD: list[tuple[bytes, Optional[bytes], list[str]]] = [
 ]
 
 
-def by_hand() -> int:
-    """How many of the lines that have to be told are missing."""
-    missing = 0
-    for text, answer, expected in TOLD:
-        lines, _ = explain.explain(text, answer)
-        for line in expected:
-            if line not in lines:
-                print(f"not told of {text[:60]!r} and {answer!r}: {line}")
-                missing += 1
-    return missing
+@pytest.mark.parametrize("text, answer, expected", TOLD, ids=[expected[0][:60] for _, _, expected in TOLD])
+def test_lines_by_hand(text: bytes, answer: Optional[bytes], expected: list[str]) -> None:
+    """Lines that have to be told of a file and an answer."""
+    lines, _ = explain.explain(text, answer)
+    for line in expected:
+        assert line in lines, f"not told of {text[:60]!r} and {answer!r}: {line}"
 
 
 # ---- the comparison
 
-class Trial:
+class Comparing:
+    """The program and explain.py side by side, and how often each kind of fault was met."""
+
     def __init__(self, program: str, folder: str) -> None:
         self.program, self.folder = program, folder
-        self.agreed, self.differ = 0, 0
         self.kinds: collections.Counter[str] = collections.Counter()
 
     def write(self, name: str, text: bytes) -> str:
@@ -286,6 +278,12 @@ class Trial:
         with open(path, "wb") as opened:
             opened.write(text)
         return path
+
+    @staticmethod
+    def content(path: str) -> bytes:
+        """How a file begins."""
+        with open(path, "rb") as opened:
+            return opened.read(500)
 
     def run(self, *words: str) -> subprocess.CompletedProcess[bytes]:
         return subprocess.run([self.program, *words, "--fuel", FUEL], stdout=subprocess.PIPE, stderr=subprocess.PIPE, timeout=120)
@@ -313,26 +311,8 @@ class Trial:
             agrees = agrees and first is not None and first[0] == refused[1] and refused[2] in (None, first[1])
         found = re.match(r"wrong: (Uncovered|CoveredTwice|a cover exists)", verdict[0] if verdict else "")
         self.kinds[refused[1] if refused else found[1] if found else "no fault"] += 1
-        self.agreed, self.differ = self.agreed + bool(agrees), self.differ + (not agrees)
-        if not agrees:
-            print(f"differ: the program {verdict + told}, explain.py {says}, first {first}")
-            for word in filter(os.path.isfile, words):
-                with open(word, "rb") as opened:
-                    print("    " + repr(opened.read(500)))
-
-    def unreadable(self) -> None:
-        """Compares a folder and a missing file, as the problem's file and as the answer's: both the program and explain.py name it."""
-        letters, missing = self.write("letters", LETTERS), os.path.join(self.folder, "missing")
-        for path, cause in ((self.folder, "it is a folder"), (missing, "there is no such file")):
-            for words, ran in (([path], self.run("alone", path)), ([letters, path], self.run("check", letters, path))):
-                said = io.StringIO()
-                with contextlib.redirect_stdout(said):
-                    status = explain.main(words)
-                agrees = (ran.returncode, status) == (3, 3) and ran.stderr.startswith(f"cannot read: {path}: ".encode())
-                agrees = agrees and said.getvalue() == f"{path} can't be read: {cause}\n"
-                self.agreed, self.differ = self.agreed + agrees, self.differ + (not agrees)
-                if not agrees:
-                    print(f"differ: {words}: the program {ran.stderr!r}, explain.py {said.getvalue()!r}")
+        files = [self.content(word) for word in words if os.path.isfile(word)]
+        assert agrees, f"the program {verdict + told}, explain.py {says}, first {first} of {files}"
 
     def file(self, draw: random.Random, text: bytes) -> None:
         """Compares a file, and where it can be read an answer to it."""
@@ -345,45 +325,63 @@ class Trial:
         self.compare([file, answer], self.run("check", file, answer), True)
 
 
-def texts(draw: random.Random, files: int) -> Iterator[bytes]:
-    """The texts of the examples, of the outside cases and of the random files."""
-    examples = []
-    for name in sorted(glob.glob(os.path.join(TOP, "examples", "*.dlx"))):
-        with open(name, "rb") as opened:
-            examples.append(opened.read())
-    yield from examples
-    yield from outside_cases()
-    small = [text for text in examples if len(text) < 3000]
+@pytest.fixture
+def comparing(program: str, tmp_path: pathlib.Path) -> Comparing:
+    return Comparing(program, str(tmp_path))
+
+
+@pytest.mark.parametrize("kind", ("file", "answer"))
+@pytest.mark.parametrize("cause", ("it is a folder", "there is no such file"))
+def test_unreadable(comparing: Comparing, kind: str, cause: str) -> None:
+    """Of a folder and a missing file, as the problem's file and as the answer's, both the program and explain.py name it."""
+    letters = comparing.write("letters", LETTERS)
+    path = comparing.folder if "folder" in cause else os.path.join(comparing.folder, "missing")
+    words = [path] if kind == "file" else [letters, path]
+    ran, said = comparing.run("alone" if kind == "file" else "check", *words), io.StringIO()
+    with contextlib.redirect_stdout(said):
+        status = explain.main(words)
+    agrees = (ran.returncode, status) == (3, 3) and ran.stderr.startswith(f"cannot read: {path}: ".encode())
+    agrees = agrees and said.getvalue() == f"{path} can't be read: {cause}\n"
+    assert agrees, f"{words}: the program {ran.stderr!r}, explain.py {said.getvalue()!r}"
+
+
+def examples() -> Iterator[tuple[str, bytes]]:
+    """The examples, by their names."""
+    for path in sorted(glob.glob(os.path.join(TOP, "examples", "*.dlx"))):
+        with open(path, "rb") as opened:
+            yield os.path.basename(path), opened.read()
+
+
+def random_files(draw: random.Random, files: int) -> Iterator[bytes]:
+    """So many files, most of them spoilt."""
+    small = [text for _, text in examples() if len(text) < 3000]
     for _ in range(files):
         text = draw.choice(small) if draw.random() < 0.2 else random_problem(draw)
         yield spoilt(draw, text, draw.choice([0, 1, 1, 1, 2, 3]))
 
 
-def main() -> int:
-    parser = parser_of(__doc__)
-    parser.add_argument("--files", type=int, default=1000, help="how many random files are tried (default 1000)")
-    parser.add_argument("--seed", type=int, default=1, help="the seed of what is drawn (default 1)")
-    parser.add_argument("--program", type=path_of, default=SOLVE_CLI, help="the built program (default crates/solve_cli/out/solve_cli)")
-    given = parser.parse_args()
-    want_program(given.program)
-    draw = random.Random(given.seed)
-    with tempfile.TemporaryDirectory(prefix="try-explain-") as folder:
-        trial = Trial(given.program, folder)
-        files = 0
-        for text in texts(draw, given.files):
-            trial.file(draw, text)
-            files += 1
-        answers = trial.agreed + trial.differ - files
-        trial.unreadable()
-    missing = by_hand()
-    missed = [kind for kind in FAULTS if not trial.kinds[kind]]
-    print(", ".join(f"{kind} {count}" for kind, count in trial.kinds.most_common()))
-    if missed and given.files >= 1000:
-        print("never met:", ", ".join(missed))
-    print(f"{sum(len(expected) for _, _, expected in TOLD)} lines by hand: {missing} missing")
-    print(f"{files} files, {answers} answers, 4 that can't be read: {trial.agreed} agree, {trial.differ} differ")
-    return 1 if trial.differ or missing or (missed and given.files >= 1000) else 0
+@pytest.mark.parametrize("name, text", examples(), ids=[name for name, _ in examples()])
+def test_example(comparing: Comparing, name: str, text: bytes) -> None:
+    comparing.file(random.Random(name), text)
 
 
-if __name__ == "__main__":
-    sys.exit(main())
+@pytest.mark.parametrize("place", range(len(list(outside_cases()))))
+def test_outside_case(comparing: Comparing, place: int) -> None:
+    comparing.file(random.Random(place), list(outside_cases())[place])
+
+
+@pytest.mark.parametrize("seed", range(20))
+def test_random_files(comparing: Comparing, seed: int) -> None:
+    draw = random.Random(seed)
+    for text in random_files(draw, 10):
+        comparing.file(draw, text)
+
+
+@pytest.mark.slow
+def test_each_kind_of_fault(comparing: Comparing) -> None:
+    """Of a thousand random files, the examples and the outside cases all agree, and each kind of fault is met."""
+    draw = random.Random(1)
+    for text in (*(text for _, text in examples()), *outside_cases(), *random_files(draw, 1000)):
+        comparing.file(draw, text)
+    missed = [kind for kind in FAULTS if not comparing.kinds[kind]]
+    assert not missed, f"never met: {missed}"

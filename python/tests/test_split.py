@@ -1,17 +1,11 @@
-#!/usr/bin/env python3
 """Tries split.py, join.py and run_part.sh.
 
-    python3 scripts/try_split.py [--short]
-
-Of 2,000 random problems (200 with --short), with secondary items and colours, the prefixes are compared with those of the branching of
+Of random problems, with secondary items and colours, the prefixes are compared with those of the branching of
 `plain_search.py`, and the covers of the parts, each with its prefix, with the covers of the whole: all of these are counted out. Of those without a cover
 a plain search certifies the parts, and what `joined_certificates` makes of these, by cases and by clauses, has to be a certificate of the whole. Two
 examples are compared with what was counted by hand. Then the parts of some problems are searched and joined, and `check` has to find the answer
 right; and parts, answers and certificates are deleted, changed, wrong, half written, and stopped by signals. Where GNU parallel is installed, it runs the parts
 too, is killed, and goes on.
-
-It wants the program: (cd crates/solve_cli && rt run -- --version) builds it. The last line is 'N passed, M failed'. The exit status is 0 where all
-passed, 1 where something failed, 2 for a mistake on the command line or where there is no program.
 """
 from __future__ import annotations
 
@@ -19,6 +13,7 @@ import contextlib
 import glob
 import itertools
 import os
+import pathlib
 import random
 import shlex
 import shutil
@@ -29,19 +24,18 @@ import tempfile
 import time
 from typing import Callable, NamedTuple, Optional
 
-from built import SOLVE_CLI, TOP, parser_of, want_program
-from zarfepoch.cover_files import read_problem
-from expected import Trial
+import pytest
+
+from built import TOP
 from plain_search import Numbered, branching, live_options, read
 from try_certificates import by_script, certificates
+from zarfepoch.cover_files import read_problem
 from zarfepoch.joined_certificates import JOINERS, PartText
 from zarfepoch.search_parts import Split, Tree, list_text, places_in, split, texts_of
 
-PROGRAM = os.environ.get("ZARFEPOCH") or SOLVE_CLI
+PROGRAM = os.environ["ZARFEPOCH"]
 RUN_PART = os.path.join(TOP, "scripts", "run_part.sh")
 EXAMPLES = os.path.join(TOP, "examples")
-trial = Trial()
-expect = trial.expect
 
 
 # ---- random problems
@@ -111,7 +105,7 @@ def try_joined(draw: random.Random, text: bytes, tree: Tree, found: Split) -> No
     for place, kind in enumerate((b"cases", b"clauses")):
         parts = [PartText(prefix, [line.encode() for line in both[place][2:]]) for prefix, both in zip(found.parts, of_parts)]
         lines = [line.decode() for line in JOINERS[kind](tree, found, parts).text()]
-        expect(f"a joined certificate of\n{text!r}\n{lines}", by_script(text.decode(), lines) == "right")
+        assert by_script(text.decode(), lines) == "right", f"a joined certificate of\n{text!r}\n{lines}"
 
 
 def try_random(draw: random.Random) -> str:
@@ -120,29 +114,32 @@ def try_random(draw: random.Random) -> str:
     names, primary, options, _ = read(text)
     tree = Tree(read_problem(text))
     found, wanted = split(tree, number), taken_apart(primary, options, number)
-    expect(f"the prefixes of\n{text!r}", numbers_of(found) == wanted)
-    if numbers_of(found) != wanted:
-        return "other prefixes"
+    assert numbers_of(found) == wanted, f"the prefixes of\n{text!r}"
     if wanted.cover is not None:
-        expect(f"the cover of\n{text!r}", is_cover(primary, [options[place] for place in wanted.cover]))
+        assert is_cover(primary, [options[place] for place in wanted.cover]), f"the cover of\n{text!r}"
         return "a cover"
     covers = []
     for prefix, part in zip(wanted.parts, texts_of(tree, found)):
         live = live_options(primary, options, prefix)
         refused = read_problem(part).faults
-        expect(f"a part that can be read: {part!r}", not refused)
-        if refused:
-            return "a refused part"
+        assert not refused, f"a part that can be read: {part!r}"
         part_names, part_primary, part_options, ignored = read(part)
-        expect(f"no ignored option: {part!r}", not ignored)
-        expect(f"names and options as they were: {part!r}", [{part_names[item]: colour for item, colour in option.items()} for option in part_options]
-               == [{names[item]: colour for item, colour in options[place].items()} for place in live])
+        assert not ignored, f"no ignored option: {part!r}"
+        assert ([{part_names[item]: colour for item, colour in option.items()} for option in part_options]
+               == [{names[item]: colour for item, colour in options[place].items()} for place in live]), f"names and options as they were: {part!r}"
         covers += [frozenset(prefix) | {live[place] for place in cover} for cover in covers_of(part_primary, part_options)]
     whole = covers_of(primary, options)
-    expect(f"the covers of the parts of\n{text!r}", set(covers) == set(whole) and len(covers) == len(whole))
+    assert set(covers) == set(whole) and len(covers) == len(whole), f"the covers of the parts of\n{text!r}"
     if not covers:
         try_joined(draw, text, tree, found)
     return "parts with covers" if covers else "parts without one" if wanted.parts else "no part"
+
+
+@pytest.mark.parametrize("seeds", (*(range(first, first + 20) for first in range(0, 200, 20)), pytest.param(range(200, 2000), marks=pytest.mark.slow)),
+                         ids=lambda seeds: f"{seeds[0]} to {seeds[-1]}")
+def test_random_problems(seeds: range) -> None:
+    for seed in seeds:
+        try_random(random.Random(seed))
 
 
 # ---- counts by hand
@@ -166,21 +163,21 @@ LANGFORD_PREFIXES = [["4 s1 s6", "3 s3 s7"], ["4 s1 s6", "3 s4 s8"], ["4 s2 s7",
 LANGFORD_FIRST = [b"1 2 s2 s4 s5 s8", b"1 s2 s4", b"2 s2 s5", b"2 s5 s8"]
 
 
-def by_hand() -> None:
+def test_by_hand() -> None:
     """Two examples that were taken apart on paper."""
     tree = Tree(read_problem(COLOURED))
     found = split(tree, 2)
-    expect("the parts of the coloured example", list(texts_of(tree, found)) == COLOURED_PARTS)
-    expect("the list of the coloured example", list_text(found, 2) == COLOURED_LIST)
+    assert list(texts_of(tree, found)) == COLOURED_PARTS, "the parts of the coloured example"
+    assert list_text(found, 2) == COLOURED_LIST, "the list of the coloured example"
     with open(os.path.join(EXAMPLES, "langford-4.dlx"), "rb") as file:
         tree = Tree(read_problem(file.read()))
     found = split(tree, 5)
     words = [[tree.words(place).decode() for place in prefix.options] for prefix in found.parts]
-    expect("five prefixes of Langford pairs", words == LANGFORD_PREFIXES)
-    expect("the first part of Langford pairs", next(texts_of(tree, found)).split(b"\n")[3:-1] == LANGFORD_FIRST)
+    assert words == LANGFORD_PREFIXES, "five prefixes of Langford pairs"
+    assert next(texts_of(tree, found)).split(b"\n")[3:-1] == LANGFORD_FIRST, "the first part of Langford pairs"
     closed = split(Tree(read_problem(b"a b c\na\na b\nb\n")), 3)
-    expect("a file with an item in no option", list_text(closed, 3) == b"at least 3 parts\nclosed: options , no option is left for c\n")
-    expect("places in a set", places_in(0b10110) == [1, 2, 4])
+    assert list_text(closed, 3) == b"at least 3 parts\nclosed: options , no option is left for c\n", "a file with an item in no option"
+    assert places_in(0b10110) == [1, 2, 4], "places in a set"
 
 
 # ---- folders of parts
@@ -199,17 +196,23 @@ def ran(*words: str, program: str = PROGRAM) -> Ran:
 
 
 def script(name: str, *words: str) -> Ran:
-    return ran(sys.executable, os.path.join(TOP, "scripts", name), *words)
+    return ran(sys.executable, "-m", f"zarfepoch.{name}", *words)
 
 
 def example(name: str) -> str:
     return os.path.join(EXAMPLES, name + ".dlx")
 
 
+@pytest.fixture
+def top(tmp_path: pathlib.Path) -> str:
+    """A folder for the folders of parts."""
+    return str(tmp_path)
+
+
 def made(top: str, name: str, number: int) -> str:
     """A folder with the parts of an example."""
     folder = tempfile.mktemp(prefix="parts-", dir=top)
-    expect(f"{name} in {number} parts", script("split.py", example(name), "--parts", str(number), "--into", folder).status == 0)
+    assert script("split", example(name), "--parts", str(number), "--into", folder).status == 0, f"{name} in {number} parts"
     return folder
 
 
@@ -234,62 +237,62 @@ def text_of(path: str) -> str:
 
 def joined(folder: str, top: str) -> Ran:
     """What join.py says of a folder; `check` has to find an answer right."""
-    said = script("join.py", folder)
+    said = script("join", folder)
     if said.status in (0, 1):
         answer = os.path.join(top, "answer")
         write(answer, said.output)
         checked = ran(PROGRAM, "check", os.path.join(folder, "whole.dlx"), answer)
-        expect(f"the joined answer of {folder}: {checked}", (checked.status, checked.output) == (0, "right\n"))
+        assert (checked.status, checked.output) == (0, "right\n"), f"the joined answer of {folder}: {checked}"
     return said
 
 
-def whole_searches(top: str) -> None:
+@pytest.mark.parametrize("name, number", (
+    ("mutilated-chessboard", 30), ("tetrominoes-4x5", 20), ("langford-5", 6), ("queens-8", 20), ("fano-plane", 20), ("killer", 10), ("word-square", 3),
+    ("squares-3x3", 2), ("sudoku", 500)))
+def test_whole_search(top: str, name: str, number: int) -> None:
     """Examples of which all parts are searched, and joined: the answer is that of `alone`."""
-    for name, number in (("mutilated-chessboard", 30), ("tetrominoes-4x5", 20), ("langford-5", 6), ("queens-8", 20), ("fano-plane", 20),
-                         ("killer", 10), ("word-square", 3), ("squares-3x3", 2), ("sudoku", 500)):
-        folder = made(top, name, number)
-        ended = [ran(RUN_PART, part).status for part in parts_in(folder)]
-        alone, said = ran(PROGRAM, "alone", example(name)), joined(folder, top)
-        expect(f"{name} joined: {said}", said.status == alone.status and said.output.split("\n")[0].split()[0] == alone.output.split()[0])
-        expect(f"{name} by its parts: {ended}", not ended or (0 in ended) == (said.status == 0))
-        expect(f"nothing left of {name}", script("join.py", folder, "--left").output == "")
-        shutil.rmtree(folder)
+    folder = made(top, name, number)
+    ended = [ran(RUN_PART, part).status for part in parts_in(folder)]
+    alone, said = ran(PROGRAM, "alone", example(name)), joined(folder, top)
+    assert said.status == alone.status and said.output.split("\n")[0].split()[0] == alone.output.split()[0], f"{name} joined: {said}"
+    assert not ended or (0 in ended) == (said.status == 0), f"{name} by its parts: {ended}"
+    assert script("join", folder, "--left").output == "", f"nothing left of {name}"
 
 
-def damaged_parts(top: str) -> None:
+def test_damaged_parts(top: str) -> None:
     """A board without a cover, of whose parts one is damaged at a time."""
     folder = made(top, "mutilated-chessboard", 6)
     parts = parts_in(folder)
-    expect("no answer yet", joined(folder, top)[:2] == (4, "no answer\n"))
-    expect("all are left", script("join.py", folder, "--left").output.split() == parts)
+    assert joined(folder, top)[:2] == (4, "no answer\n"), "no answer yet"
+    assert script("join", folder, "--left").output.split() == parts, "all are left"
     for part in parts[:-1]:
-        expect("a part", ran(RUN_PART, part).status == 1)
+        assert ran(RUN_PART, part).status == 1, "a part"
     said = joined(folder, top)
-    expect(f"one is left: {said}", (said.status, f"1 of {len(parts)} parts have no answer: {len(parts)}\n" in said.errors) == (4, True))
-    expect("one path", script("join.py", folder, "--left").output.split() == parts[-1:])
-    expect("the last part", ran(RUN_PART, parts[-1]).status == 1)
-    expect("none", joined(folder, top) == (1, "none\n", ""))
+    assert (said.status, f"1 of {len(parts)} parts have no answer: {len(parts)}\n" in said.errors) == (4, True), f"one is left: {said}"
+    assert script("join", folder, "--left").output.split() == parts[-1:], "one path"
+    assert ran(RUN_PART, parts[-1]).status == 1, "the last part"
+    assert joined(folder, top) == (1, "none\n", ""), "none"
     whole, listed = os.path.join(folder, "whole.dlx"), os.path.join(folder, "parts.txt")
     for path in (parts[2], whole, listed):
         was = text_of(path)
         for what, text in (("a line less", "\n".join(was.split("\n")[:-2]) + "\n"), ("a line more", was + "x\n"), ("nothing", "")):
             write(path, text)
             said = joined(folder, top)
-            expect(f"{path} with {what}: {said}", (said.status, said.output) == (3, "") and (path in said.errors or what == "a line less"))
+            assert (said.status, said.output) == (3, "") and (path in said.errors or what == "a line less"), f"{path} with {what}: {said}"
         os.remove(path)
         said = joined(folder, top)
-        expect(f"{path} is missing: {said}", (said.status, said.output) == (3, "") and path in said.errors)
+        assert (said.status, said.output) == (3, "") and path in said.errors, f"{path} is missing: {said}"
         write(path, was)
     was = text_of(listed)
     for number in ("7", "999999", "0", "x"):
         write(listed, was.replace("at least 6", f"at least {number}"))
-        expect(f"a list of {number} parts", joined(folder, top).status == 3)
+        assert joined(folder, top).status == 3, f"a list of {number} parts"
     write(listed, was)
-    expect("all as it was", joined(folder, top) == (1, "none\n", ""))
+    assert joined(folder, top) == (1, "none\n", ""), "all as it was"
     shutil.rmtree(folder)
 
 
-def damaged_answers(top: str) -> None:
+def test_damaged_answers(top: str) -> None:
     """Answers that are none, each in place of a part's `none`."""
     folder = made(top, "mutilated-chessboard", 6)
     parts = parts_in(folder)
@@ -305,24 +308,24 @@ def damaged_answers(top: str) -> None:
             ("cover 0\n", "wrong: Uncovered", 3), ("cover 1\n" + clashing + "\n", "wrong: ", 3)):
         write(path, text)
         got = joined(folder, top)
-        expect(f"{text!r}: {got}", got.status == status and said in got.errors and (path in got.errors) == (status == 3))
+        assert got.status == status and said in got.errors and (path in got.errors) == (status == 3), f"{text!r}: {got}"
     os.remove(path)
     os.mkdir(path)
     got = joined(folder, top)
-    expect(f"a folder for an answer: {got}", got.status == 3 and path in got.errors)
+    assert got.status == 3 and path in got.errors, f"a folder for an answer: {got}"
     shutil.rmtree(folder)
 
 
 def certified(folder: str, out: str) -> Ran:
     """What join.py says of a folder by its certificates; `check` has to find that of the whole right."""
-    said = script("join.py", folder, "--certificate", out)
+    said = script("join", folder, "--certificate", out)
     if said.status == 1:
         checked = ran(PROGRAM, "check", os.path.join(folder, "whole.dlx"), out)
-        expect(f"the certificate of {folder}: {checked}", (checked.status, checked.output) == (0, "right\n"))
+        assert (checked.status, checked.output) == (0, "right\n"), f"the certificate of {folder}: {checked}"
     return said
 
 
-def certificates_count(top: str) -> None:
+def test_certificates_count(top: str) -> None:
     """With --certificate an answer that is written by hand doesn't count, and a certificate counts without an answer."""
     folder, out = made(top, "langford-5", 6), os.path.join(top, "whole.certificate")
     parts = parts_in(folder)
@@ -330,36 +333,36 @@ def certificates_count(top: str) -> None:
     for part in parts:
         write(answer_of(part), "none\n")
     said = certified(folder, out)
-    expect(f"answers by hand: {said}", said[:2] == (4, "no answer\n") and f"{len(parts)} of {len(parts)} parts have no certificate" in said.errors)
-    expect("all are left", script("join.py", folder, "--left", "--certificate", out).output.split() == parts)
+    assert said[:2] == (4, "no answer\n") and f"{len(parts)} of {len(parts)} parts have no certificate" in said.errors, f"answers by hand: {said}"
+    assert script("join", folder, "--left", "--certificate", out).output.split() == parts, "all are left"
     for part, path in zip(parts, paths):
         os.remove(answer_of(part))
-        expect("a part", ran(RUN_PART, part, "learn", "--certificate", path).status == 1)
+        assert ran(RUN_PART, part, "learn", "--certificate", path).status == 1, "a part"
         os.remove(answer_of(part))
     said = certified(folder, out)
-    expect(f"certificates alone: {said}", said == (1, "none\n", ""))
-    expect("they are no answers", joined(folder, top).status == 4)
+    assert said == (1, "none\n", ""), f"certificates alone: {said}"
+    assert joined(folder, top).status == 4, "they are no answers"
     was, whole = text_of(paths[2]), text_of(out)
     by_cases = "\n".join(certificates(random.Random(1), text_of(parts[2]))[0])
     for text, message in ((was[:-2] + "\n", f"{paths[2]} is wrong: line "), (was + "x\n", "expected the end"), ("", "is wrong: line 1: expected 'none'"),
                           (text_of(paths[3]), f"{paths[2]} is wrong: line "), (by_cases, "parts 1 and 3 are of two kinds, by clauses and by cases")):
         write(paths[2], text)
         said = certified(folder, out)
-        expect(f"{text[:40]!r}..: {said}", (said.status, said.output) == (3, "") and message in said.errors and text_of(out) == whole)
+        assert (said.status, said.output) == (3, "") and message in said.errors and text_of(out) == whole, f"{text[:40]!r}..: {said}"
     write(paths[2], was)
     said = certified(folder, os.path.join(top, "missing", "out"))
-    expect(f"no folder: {said}", (said.status, said.output) == (3, "") and "can't be written" in said.errors)
-    said = script("join.py", folder, "--certificate", "/dev/full")
-    expect(f"a full disk: {said}", (said.status, said.output) == (3, "") and "/dev/full can't be written" in said.errors)
+    assert (said.status, said.output) == (3, "") and "can't be written" in said.errors, f"no folder: {said}"
+    said = script("join", folder, "--certificate", "/dev/full")
+    assert (said.status, said.output) == (3, "") and "/dev/full can't be written" in said.errors, f"a full disk: {said}"
     write(answer_of(parts[0]), "cover 0\n")
     said = certified(folder, out)
-    expect(f"a wrong answer beside its certificate: {said}", said.status == 3 and answer_of(parts[0]) in said.errors)
+    assert said.status == 3 and answer_of(parts[0]) in said.errors, f"a wrong answer beside its certificate: {said}"
     os.remove(answer_of(parts[0]))
-    expect("nothing else was left", sorted(os.listdir(top)) == sorted([os.path.basename(folder), "whole.certificate"]))
+    assert sorted(os.listdir(top)) == sorted([os.path.basename(folder), "whole.certificate"]), "nothing else was left"
     shutil.rmtree(folder)
 
 
-def covers_win(top: str) -> None:
+def test_covers_win(top: str) -> None:
     """A cover of one part is one of the whole, whatever there is of the others."""
     folder = made(top, "queens-8", 20)
     parts = parts_in(folder)
@@ -368,50 +371,50 @@ def covers_win(top: str) -> None:
         if part != found and os.path.exists(answer_of(part)):
             os.remove(answer_of(part))
     said = joined(folder, top)
-    expect(f"a cover: {said}", said[::2] == (0, "") and said.output.startswith("cover 8\n"))
+    assert said[::2] == (0, "") and said.output.startswith("cover 8\n"), f"a cover: {said}"
     os.remove(parts[-1])
     write(answer_of(parts[-2]), "cover 1\n")
     said = joined(folder, top)
-    expect(f"a cover beside two that are damaged: {said}", said.status == 0 and parts[-1] in said.errors and answer_of(parts[-2]) in said.errors)
+    assert said.status == 0 and parts[-1] in said.errors and answer_of(parts[-2]) in said.errors, f"a cover beside two that are damaged: {said}"
     os.remove(found)
-    expect("a cover of a part that is missing", joined(folder, top).status == 0)
+    assert joined(folder, top).status == 0, "a cover of a part that is missing"
     text = text_of(answer_of(found))
     os.remove(answer_of(found))
     write(answer_of(parts[-3]), text)
     said = joined(folder, top)
-    expect(f"a cover of another part: {said}", said.status == 3 and "wrong: " in said.errors)
+    assert said.status == 3 and "wrong: " in said.errors, f"a cover of another part: {said}"
     shutil.rmtree(folder)
 
 
-def odd_words(top: str) -> None:
+def test_odd_words(top: str) -> None:
     """Mistakes on the command lines, and files and folders that can't be used."""
     file, folder, missing = example("queens-8"), os.path.join(top, "odd"), os.path.join(top, "missing")
     for number in ("0", "-1", "x", "10001", "1.5"):
-        expect(f"{number} parts", script("split.py", file, "--parts", number, "--into", folder).status == 2)
-    expect("no number", script("split.py", file, "--into", folder).status == 2)
-    expect("no folder", script("split.py", file, "--parts", "3").status == 2)
+        assert script("split", file, "--parts", number, "--into", folder).status == 2, f"{number} parts"
+    assert script("split", file, "--into", folder).status == 2, "no number"
+    assert script("split", file, "--parts", "3").status == 2, "no folder"
     refused = os.path.join(top, "refused.dlx")
     write(refused, "a b\na c\n")
-    said = script("split.py", refused, "--parts", "3", "--into", folder)
-    expect(f"a refused file: {said}", said.status == 3 and "UnknownItem line 2" in said.errors and not os.path.exists(folder))
-    expect("no file", script("split.py", missing, "--parts", "3", "--into", folder).status == 3)
-    expect("a folder of no folder", script("split.py", file, "--parts", "3", "--into", os.path.join(missing, "x")).status == 3)
+    said = script("split", refused, "--parts", "3", "--into", folder)
+    assert said.status == 3 and "UnknownItem line 2" in said.errors and not os.path.exists(folder), f"a refused file: {said}"
+    assert script("split", missing, "--parts", "3", "--into", folder).status == 3, "no file"
+    assert script("split", file, "--parts", "3", "--into", os.path.join(missing, "x")).status == 3, "a folder of no folder"
     os.mkdir(folder)
-    expect("an empty folder", script("split.py", file, "--parts", "3", "--into", folder).status == 0)
+    assert script("split", file, "--parts", "3", "--into", folder).status == 0, "an empty folder"
     before = {name: text_of(os.path.join(folder, name)) for name in os.listdir(folder)}
-    said = script("split.py", example("langford-4"), "--parts", "3", "--into", folder)
-    expect(f"a folder in use: {said}", said.status == 3 and before == {name: text_of(os.path.join(folder, name)) for name in os.listdir(folder)})
-    expect("nothing else was made", sorted(os.listdir(top)) == ["odd", "refused.dlx"])
+    said = script("split", example("langford-4"), "--parts", "3", "--into", folder)
+    assert said.status == 3 and before == {name: text_of(os.path.join(folder, name)) for name in os.listdir(folder)}, f"a folder in use: {said}"
+    assert sorted(os.listdir(top)) == ["odd", "refused.dlx"], "nothing else was made"
     for words in ((), (folder, folder), ("--right", folder)):
-        expect(f"join.py {words}", script("join.py", *words).status == 2)
-    expect("no folder to join", script("join.py", missing).status == 3)
+        assert script("join", *words).status == 2, f"join.py {words}"
+    assert script("join", missing).status == 3, "no folder to join"
     for words in ((), ("--help",), (file[:-4],)):
-        expect(f"run_part.sh {words}", ran(RUN_PART, *words).status == 2)
-    expect("no part", ran(RUN_PART, missing + ".dlx").status == 3)
-    expect("no program", ran(RUN_PART, parts_in(folder)[0], program=missing).status == 2)
-    expect("words for the program", ran(RUN_PART, parts_in(folder)[0], "solve", "--nodes", "1").status in (0, 1))
-    expect("a search without an answer", ran(RUN_PART, parts_in(folder)[1], "alone", "--fuel", "1").status == 4)
-    expect("leaves nothing", sorted(os.listdir(folder)) == sorted([*before, "part-1.answer"]))
+        assert ran(RUN_PART, *words).status == 2, f"run_part.sh {words}"
+    assert ran(RUN_PART, missing + ".dlx").status == 3, "no part"
+    assert ran(RUN_PART, parts_in(folder)[0], program=missing).status == 2, "no program"
+    assert ran(RUN_PART, parts_in(folder)[0], "solve", "--nodes", "1").status in (0, 1), "words for the program"
+    assert ran(RUN_PART, parts_in(folder)[1], "alone", "--fuel", "1").status == 4, "a search without an answer"
+    assert sorted(os.listdir(folder)) == sorted([*before, "part-1.answer"]), "leaves nothing"
     shutil.rmtree(folder)
 
 
@@ -439,7 +442,7 @@ def has_some(pattern: str) -> bool:
     return False
 
 
-def stopped(top: str) -> None:
+def test_stopped(top: str) -> None:
     """Searches that a signal ends in the middle of an answer, and that go on afterwards."""
     folder, slow = made(top, "mutilated-chessboard", 6), os.path.join(top, "slow")
     # (where this runs in the background these may be ignored, and what it starts would ignore them too)
@@ -450,54 +453,34 @@ def stopped(top: str) -> None:
     for number, kill in ((1, signal.SIGTERM), (2, signal.SIGINT), (3, signal.SIGHUP), (4, signal.SIGKILL)):
         part = os.path.join(folder, f"part-{number}.dlx")
         with subprocess.Popen([RUN_PART, part], env={**os.environ, "ZARFEPOCH": slow}, start_new_session=True) as run:
-            expect(f"an answer begins before {kill.name}", comes(lambda: has_some(answer_of(part) + ".*")))
+            assert comes(lambda: has_some(answer_of(part) + ".*")), f"an answer begins before {kill.name}"
             os.killpg(run.pid, kill) if kill == signal.SIGKILL else run.send_signal(kill)
             status = run.wait(10)
-        expect(f"no answer after {kill.name}", status == (-9 if kill == signal.SIGKILL else 143) and not os.path.exists(answer_of(part)))
-        expect(f"what {kill.name} leaves", len(glob.glob(answer_of(part) + ".*")) == (kill == signal.SIGKILL))
-    expect("still none", joined(folder, top)[:2] == (4, "no answer\n"))
+        assert status == (-9 if kill == signal.SIGKILL else 143) and not os.path.exists(answer_of(part)), f"no answer after {kill.name}"
+        assert len(glob.glob(answer_of(part) + ".*")) == (kill == signal.SIGKILL), f"what {kill.name} leaves"
+    assert joined(folder, top)[:2] == (4, "no answer\n"), "still none"
     for part in parts_in(folder):
-        expect("the search goes on", ran(RUN_PART, part).status == 1)
-        expect("no part is searched twice", ran(RUN_PART, part, program="/bin/false").status == 1)
-    expect("joined after a stop", joined(folder, top) == (1, "none\n", ""))
+        assert ran(RUN_PART, part).status == 1, "the search goes on"
+        assert ran(RUN_PART, part, program="/bin/false").status == 1, "no part is searched twice"
+    assert joined(folder, top) == (1, "none\n", ""), "joined after a stop"
     shutil.rmtree(folder)
 
 
-def by_parallel(top: str) -> None:
+@pytest.mark.skipif(not shutil.which("parallel"), reason="GNU parallel isn't installed")
+def test_by_parallel(top: str) -> None:
     """GNU parallel runs the parts, is stopped, and goes on where it was."""
     folder, slow = made(top, "mutilated-chessboard", 12), os.path.join(top, "slow")
     write(slow, "#!/bin/sh\nsleep 0.3\nexec " + PROGRAM + ' "$@"\n')
     os.chmod(slow, 0o755)
     # (parallel hands its command to a shell once more)
-    words = (f"{shlex.join([sys.executable, os.path.join(TOP, 'scripts', 'join.py'), folder])} --left | "
+    words = (f"{shlex.join([sys.executable, '-m', 'zarfepoch.join', folder])} --left | "
              f"parallel --will-cite --jobs 2 --joblog {shlex.quote(f'+{folder}/log')} --halt now,success=1 {shlex.quote(shlex.quote(RUN_PART))}")
     with subprocess.Popen(["sh", "-c", words], env={**os.environ, "ZARFEPOCH": slow}, stderr=subprocess.DEVNULL, start_new_session=True) as run:
-        expect("three parts have answers", comes(lambda: len(glob.glob(os.path.join(folder, "*.answer"))) >= 3))
+        assert comes(lambda: len(glob.glob(os.path.join(folder, "*.answer"))) >= 3), "three parts have answers"
         os.killpg(run.pid, signal.SIGTERM)
-    expect("some are left", joined(folder, top).status == 4)
+    assert joined(folder, top).status == 4, "some are left"
     again = ran("sh", "-c", words, program=slow)
-    expect(f"all parts were run: {again}", joined(folder, top) == (1, "none\n", ""))
+    assert joined(folder, top) == (1, "none\n", ""), f"all parts were run: {again}"
     runs = [line.split("\t")[8] for line in text_of(os.path.join(folder, "log")).split("\n") if line.count("\t") == 8 and line[0] != "S"]
-    expect(f"no part twice in the log: {runs}", len(runs) == len(set(runs)) >= len(parts_in(folder)) - 2)
+    assert len(runs) == len(set(runs)) >= len(parts_in(folder)) - 2, f"no part twice in the log: {runs}"
     shutil.rmtree(folder)
-
-
-def main() -> int:
-    parser = parser_of(__doc__)
-    parser.add_argument("--short", action="store_true", help="200 random problems in place of 2,000")
-    count = 200 if parser.parse_args().short else 2000
-    want_program(PROGRAM)
-    came_to = [try_random(random.Random(seed)) for seed in range(count)]
-    by_hand()
-    if not shutil.which("parallel"):
-        print("GNU parallel isn't installed, and isn't tried")
-    with_parallel = [by_parallel] if shutil.which("parallel") else []
-    for trials in (odd_words, whole_searches, damaged_parts, damaged_answers, certificates_count, covers_win, stopped, *with_parallel):
-        with tempfile.TemporaryDirectory() as top:
-            trials(top)
-    print(f"{count} random problems:", ", ".join(f"{came_to.count(what)} {what}" for what in sorted(set(came_to))))
-    return trial.end()
-
-
-if __name__ == "__main__":
-    sys.exit(main())

@@ -1,43 +1,34 @@
-#!/usr/bin/env python3
 """Compares the reasons that the program finds with a plain search, and with check_reason.py, which adds each of them up.
 
-    python3 scripts/try_reasons.py [COUNT]
-
-Of so many random problems with a cover (default 300) the program has to find no reason, and of as many without one each reason that it finds has
+Of 300 random problems with a cover the program has to find no reason, and of as many without one each reason that it finds has
 to hold; whether there is a cover says the plain search of `plain_search.py`. A reason in which one number is changed has to be refused by
-check_reason.py unless it still holds, as this script counts for itself. Then come families whose reasons are known: over-full timetables,
+check_reason.py unless it still holds, as this counts for itself. Then come families whose reasons are known: over-full timetables,
 pigeons, boards, Langford pairs, triples; the examples; and odd words for check_reason.py.
-
-It wants the program: (cd crates/solve_cli && rt run -- --version) builds it. The last line is 'N passed, M failed'. The exit status is 0 where all
-passed, 1 where something failed, 2 for a mistake on the command line or where there is no program.
 """
 from __future__ import annotations
 
-import collections
 import glob
 import itertools
 import os
+import pathlib
 import random
 import subprocess
 import sys
-import tempfile
 from collections.abc import Sequence
 from typing import Optional
 
-from built import SOLVE_CLI, TOP, number_from_one, parser_of, want_program
+import pytest
+
+from built import TOP
+from plain_search import read, search
 from zarfepoch import check_reason
 from zarfepoch.cover_files import read_problem
 from zarfepoch.cover_reason import Reason
-from expected import Trial
-from plain_search import read, search
-
-trial = Trial()
-expect = trial.expect
 
 
 def why(text: str) -> tuple[int, bytes]:
     """The exit status of the program, and what it writes."""
-    ran = subprocess.run([SOLVE_CLI, "why", "-"], input=text.encode(), capture_output=True)
+    ran = subprocess.run([os.environ["ZARFEPOCH"], "why", "-"], input=text.encode(), capture_output=True)
     return ran.returncode, ran.stdout
 
 
@@ -76,10 +67,10 @@ def changed(draw: random.Random, reason: bytes) -> bytes:
     return b"\n".join(lines) + b"\n"
 
 
-def random_problems(count: int) -> collections.Counter[str]:
-    """How many problems without a cover got a reason of each kind."""
-    draw, left = random.Random(74), {True: count, False: count}
-    found: collections.Counter[str] = collections.Counter()
+@pytest.mark.parametrize("seed, count", (*((seed, 30) for seed in range(10)), pytest.param(74, 2000, marks=pytest.mark.slow)))
+def test_random_problems(seed: int, count: int) -> None:
+    """So many problems with a cover have no reason, and as many without one a reason that holds, or none that is found."""
+    draw, left = random.Random(seed), {True: count, False: count}
     while any(left.values()):
         text = random_text(draw)
         _, primary, options, _ = read(text.encode())
@@ -89,16 +80,13 @@ def random_problems(count: int) -> collections.Counter[str]:
         left[has_cover] -= 1
         status, reason = why(text)
         if has_cover:
-            expect(f"no reason, since there is a cover:\n{text}", (status, reason) == (4, b"no reason found\n"))
-            continue
-        found[reason.split(b"\n")[1][:7].decode() if status == 1 else ""] += 1
-        if status == 1:
-            expect(f"the reason of\n{text}", reason.startswith(b"none\n") and is_checked(text, reason))
+            assert (status, reason) == (4, b"no reason found\n"), f"no reason, since there is a cover:\n{text}"
+        elif status == 1:
+            assert reason.startswith(b"none\n") and is_checked(text, reason), f"the reason of\n{text}"
             other = changed(draw, reason)
-            expect(f"{other!r} of\n{text}", is_checked(text, other) == Reason(other).holds(read_problem(text.encode())))
+            assert is_checked(text, other) == Reason(other).holds(read_problem(text.encode())), f"{other!r} of\n{text}"
         else:
-            expect(f"a reason or none of\n{text}", (status, reason) == (4, b"no reason found\n"))
-    return found
+            assert (status, reason) == (4, b"no reason found\n"), f"a reason or none of\n{text}"
 
 
 # ---- families
@@ -185,27 +173,33 @@ def said_of(text: str) -> Optional[str]:
     return "cliques, " * bool(reason.cliques) + "just enough room, " * bool(reason.full_rooms) + kind
 
 
+@pytest.mark.parametrize("what, text, wanted", FAMILIES, ids=[what for what, _, _ in FAMILIES])
+def test_family(what: str, text: str, wanted: Optional[str]) -> None:
+    assert said_of(text) == wanted, f"{what}: {said_of(text)}"
+
+
 # ---- the examples
 
 NONE = {"langford-5.dlx", "mutilated-chessboard.dlx", "tetrominoes-4x5.dlx"}
 
 
-def examples() -> None:
+@pytest.mark.parametrize("path", sorted(glob.glob(os.path.join(TOP, "examples", "*.dlx"))), ids=os.path.basename)
+def test_example(program: str, path: str) -> None:
     """The examples without a cover have a reason, the others none."""
-    for path in sorted(glob.glob(os.path.join(TOP, "examples", "*.dlx"))):
-        name = os.path.basename(path)
-        with open(path, encoding="utf-8") as opened:
-            text = opened.read()
-        status, written = why(text)
-        ran = subprocess.run([SOLVE_CLI, "why", path], capture_output=True)
-        expect(f"{name} as a file", (ran.returncode, ran.stdout) == (status, written))
-        expect(f"the reason of {name}", (status == 1 and is_checked(text, written)) if name in NONE else
-               (status, written) == (4, b"no reason found\n"))
+    name = os.path.basename(path)
+    with open(path, encoding="utf-8") as opened:
+        text = opened.read()
+    status, written = why(text)
+    ran = subprocess.run([program, "why", path], capture_output=True)
+    assert (ran.returncode, ran.stdout) == (status, written), f"{name} as a file"
+    assert ((status == 1 and is_checked(text, written)) if name in NONE else
+            (status, written) == (4, b"no reason found\n")), f"the reason of {name}"
 
 
 # ---- check_reason.py by its words
 
-def odd_words(folder: str) -> None:
+def test_odd_words(tmp_path: pathlib.Path) -> None:
+    folder = str(tmp_path)
     problem, reason = os.path.join(folder, "problem"), os.path.join(folder, "reason")
 
     def run_on(written: str, *words: str, text: str = "a b c | x\na b\nb c x:1\n") -> subprocess.CompletedProcess[str]:
@@ -213,7 +207,7 @@ def odd_words(folder: str) -> None:
             with open(path, "w", encoding="latin-1") as opened:
                 opened.write(content)
         words = words or (problem, reason)
-        return subprocess.run([sys.executable, os.path.join(TOP, "scripts", "check_reason.py"), *words], stdin=subprocess.DEVNULL, capture_output=True,
+        return subprocess.run([sys.executable, "-m", "zarfepoch.check_reason", *words], stdin=subprocess.DEVNULL, capture_output=True,
                               text=True)
 
     def checked(written: str, *words: str, text: str = "a b c | x\na b\nb c x:1\n") -> tuple[int, str]:
@@ -221,45 +215,24 @@ def odd_words(folder: str) -> None:
         return ran.returncode, ran.stdout.partition(":")[0].strip()
 
     right, weights = "none\nweights modulo 3\nweigh 1 a\nweigh 2 b\nweigh 1 c\n", "none\nweights modulo 3\n"
-    expect("weights", checked(right) == (0, "right"))
-    expect("no words", checked(right, problem) == (2, ""))
-    expect("no file", checked(right, problem, os.path.join(folder, "none")) == (3, ""))
+    assert checked(right) == (0, "right"), "weights"
+    assert checked(right, problem) == (2, ""), "no words"
+    assert checked(right, problem, os.path.join(folder, "none")) == (3, ""), "no file"
     for wrong in ("", "none\n", "no reason found\n", weights, weights + "weigh 1 a\n", weights + "weigh 1 x\n", weights + "weigh -1 a\n",
                   weights + "weigh a\n", right.replace("3", "0"), right.replace("3", "1"), "none\ntoo little room\nneed 1 a\nneed 1 c\nroom 1 b\nroom 1 x\n"):
-        expect(repr(wrong), checked(wrong)[0] == 1)
+        assert checked(wrong)[0] == 1, repr(wrong)
     room = "none\ntoo little room\nneed 1 a\nneed 1 c\nroom 1 b\n"
-    expect("room", checked(room) == (0, "right"))
+    assert checked(room) == (0, "right"), "room"
     held = "a b c | x y z\na x y\nb y z\nc x z\na x:1\n"
     cliques = "none\ncliques\nclique q 0 1 2\ntoo little room\nneed 1 b\nneed 1 c\nroom 1 q\n"
-    expect("cliques", checked(cliques, text=held) == (0, "right"))
+    assert checked(cliques, text=held) == (0, "right"), "cliques"
     for wrong in ("clique q 0 1 3", "clique q 0 1 4", "clique q 0 1 -2", "clique x 0 1 2", "clique q 0 1 2\nclique q 0", "clique q 1",
                   "clique q:1 0 1 2"):
-        expect(wrong, checked(cliques.replace("clique q 0 1 2", wrong), text=held)[0] == 1)
-    expect("a need too many", checked(room + "need 1 x\n")[0] == 1)
-    expect("just room", checked(room + "room 1 c\n")[0] == 1)
+        assert checked(cliques.replace("clique q 0 1 2", wrong), text=held)[0] == 1, wrong
+    assert checked(room + "need 1 x\n")[0] == 1, "a need too many"
+    assert checked(room + "room 1 c\n")[0] == 1, "just room"
     for what, text in (("an unknown item", "a b\na c\n"), ("an item twice in an option", "a b\na b a b\n"), ("no items", "")):
-        expect(f"a reason for a file with {what}", checked("none\ntoo little room\nneed 1 b\n", text=text) == (3, ""))
-    expect("both from the standard input", checked(right, "-", "-") == (2, ""))
-    expect("an empty standard input", checked(right, problem, "-") == (1, "no reason"))
-    expect("a name that isn't UTF-8", "this option are no multiple of 3: a \\xff" in run_on(weights + "weigh 1 a\n", text="a \xff\na \xff\n").stdout)
-
-
-def main() -> int:
-    parser = parser_of(__doc__)
-    parser.add_argument("count", metavar="COUNT", type=number_from_one, nargs="?", default=300, help="how many problems of each kind (default 300)")
-    count = parser.parse_args().count
-    want_program(SOLVE_CLI)
-    found = random_problems(count)
-    for what, text, wanted in FAMILIES:
-        expect(f"{what}: {said_of(text)}", said_of(text) == wanted)
-    examples()
-    with tempfile.TemporaryDirectory() as folder:
-        odd_words(folder)
-    print(f"{count} random problems with a cover, {count} without: {found['too lit']} have too little room, {found['weights']} weights, "
-          f"{found['just en']} a reason once items are primary that each cover uses, {found['cliques']} once cliques are items, "
-          f"{found['']} no reason that is found")
-    return trial.end()
-
-
-if __name__ == "__main__":
-    sys.exit(main())
+        assert checked("none\ntoo little room\nneed 1 b\n", text=text) == (3, ""), f"a reason for a file with {what}"
+    assert checked(right, "-", "-") == (2, ""), "both from the standard input"
+    assert checked(right, problem, "-") == (1, "no reason"), "an empty standard input"
+    assert "this option are no multiple of 3: a \\xff" in run_on(weights + "weigh 1 a\n", text="a \xff\na \xff\n").stdout, "a name that isn't UTF-8"

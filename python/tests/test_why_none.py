@@ -1,30 +1,25 @@
-#!/usr/bin/env python3
 """Tries what why_none.py says: its items beside the plain search of `plain_search.py`, and the words and pictures of reasons.
 
-    python3 scripts/try_why_none.py [COUNT]
-
-Of so many random problems without a cover (default 100) the items have to be ones that the plain search can't cover together, and can
+Of random problems without a cover the items have to be ones that the plain search can't cover together, and can
 without any one of them, and what is said of them has to be so. Then comes a path of 201 items, of which none can be left out;
 problems whose reason is known, with their words and pictures, and the pictures in examples/reasons, which are drawn again; and odd words:
 a problem with a cover, refused files, programs that are none, and one whose reason doesn't hold.
-
-It wants the program: (cd crates/solve_cli && rt run -- --version) builds it. The last line is 'N passed, M failed'. The exit status is 0 where all
-passed, 1 where something failed, 2 for a mistake on the command line or where there is no program.
 """
 from __future__ import annotations
 
 import itertools
 import os
+import pathlib
 import random
 import subprocess
 import sys
-import tempfile
 from collections.abc import Iterator, Sequence
 from typing import Optional
 from xml.etree import ElementTree
 
-from built import number_from_one, parser_of, SOLVE_CLI, TOP, want_program
-from expected import Trial
+import pytest
+
+from built import TOP
 from plain_search import Numbered, clash, read, search
 from try_search import random_text
 
@@ -32,14 +27,11 @@ LETTERS = os.path.join(TOP, "examples", "letters.dlx")
 PATH = 201
 # what plain_search.py reads
 Problem = tuple[list[bytes], int, list[Numbered], int]
-trial = Trial()
-expect = trial.expect
 
 
 def run(*words: str, text: Optional[str] = None) -> tuple[int, list[str], list[str]]:
     """The exit status, the lines of the standard output and those of standard error."""
-    script = os.path.join(TOP, "scripts", "why_none.py")
-    ended = subprocess.run([sys.executable, script, *words], input=text, capture_output=True, text=True, timeout=300)
+    ended = subprocess.run([sys.executable, "-m", "zarfepoch.why_none", *words], input=text, capture_output=True, text=True, timeout=300)
     return ended.returncode, ended.stdout.splitlines(), ended.stderr.splitlines()
 
 
@@ -73,22 +65,23 @@ def is_right(text: str) -> bool:
     return (status, errors) == (0, []) and least and lines[count:] == list(reasons(problem, kept))
 
 
-def random_problems(count: int) -> None:
-    draw, found = random.Random(11), 0
+@pytest.mark.parametrize("count, seed", ((30, 11), pytest.param(100, 12, marks=pytest.mark.slow)))
+def test_random_problems(count: int, seed: int) -> None:
+    draw, found = random.Random(seed), 0
     while found < count:
         text = random_text(draw)
         problem = read(text.encode())
         if not is_covered(problem, range(problem[1])):
             found += 1
-            expect(f"the items of\n{text}", is_right(text))
+            assert is_right(text), f"the items of\n{text}"
 
 
-def path() -> None:
+def test_path() -> None:
     """Items in a row, an odd number of them, and options of two neighbours."""
     names = [f"i{k}" for k in range(PATH)]
     text = [" ".join(names)] + [f"{one} {other}" for one, other in zip(names, names[1:])]
     status, lines, _ = run("-", "--search", text="\n".join(text))
-    expect("a path", status == 0 and len(lines) == 1 + PATH and lines[0].startswith(f"{PATH} primary items of {PATH} "))
+    assert status == 0 and len(lines) == 1 + PATH and lines[0].startswith(f"{PATH} primary items of {PATH} "), "a path"
 
 
 # problems whose reason is known, what is said of them, and texts of their pictures
@@ -120,55 +113,53 @@ def content(path: str) -> str:
         return opened.read()
 
 
-def known_reasons(folder: str) -> None:
-    picture = os.path.join(folder, "picture.svg")
-    for text, words, drawn in REASONS:
-        expect(f"{words[0]}: {run('-', text=text)}", run("-", text=text) == (0, words, []))
-        expect(f"the picture's words of {words[0]}", run("-", "--svg", picture, text=text) == (0, words, []))
-        told = texts_of(content(picture))
-        expect(f"{told} of {words[0]}", set(drawn) <= set(told))
-        status, lines, errors = run("-", "--svg", "-", text=text)
-        expect(f"the picture alone of {words[0]}", (status, errors) == (0, []) and texts_of("\n".join(lines)) == told)
-    for name in sorted(os.listdir(os.path.join(TOP, "examples", "reasons"))):
-        run(os.path.join(TOP, "examples", name.replace(".svg", ".dlx")), "--svg", picture)
-        expect(f"the picture {name} as it stands", content(picture) == content(os.path.join(TOP, "examples", "reasons", name)))
-    status, lines, errors = run("-", "--svg", os.path.join(folder, "none", "x.svg"), text=REASONS[0][0])
-    expect("a picture that can't be written", status == 3 and len(errors) == 1)
-    wrong = os.path.join(folder, "wrong")
-    with open(wrong, "w", encoding="ascii") as opened:
-        opened.write("#!/bin/sh\necho none; echo weights modulo 3; echo weigh 1 a; exit 1\n")
-    os.chmod(wrong, 0o755)
-    status, lines, errors = run("-", "--program", wrong, text=REASONS[0][0])
-    expect("a reason that doesn't hold", (status, lines) == (2, []) and "doesn't hold" in errors[-1])
+@pytest.mark.parametrize("text, words, drawn", REASONS, ids=[words[0] for _, words, _ in REASONS])
+def test_known_reason(tmp_path: pathlib.Path, text: str, words: list[str], drawn: list[str]) -> None:
+    picture = str(tmp_path / "picture.svg")
+    assert run("-", text=text) == (0, words, []), f"{words[0]}: {run('-', text=text)}"
+    assert run("-", "--svg", picture, text=text) == (0, words, []), f"the picture's words of {words[0]}"
+    told = texts_of(content(picture))
+    assert set(drawn) <= set(told), f"{told} of {words[0]}"
+    status, lines, errors = run("-", "--svg", "-", text=text)
+    assert (status, errors) == (0, []) and texts_of("\n".join(lines)) == told, f"the picture alone of {words[0]}"
 
 
-def odd_words(folder: str) -> None:
-    text = os.path.join(folder, "text")
-    with open(text, "w", encoding="ascii") as opened:
-        opened.write("no program\nx\n")
-    os.chmod(text, 0o755)
-    expect("a cover", run(LETTERS) == (1, ["there is a cover"], []))
-    expect("little fuel", run(LETTERS, "--fuel", "1") == (1, ["no answer within 1 visits; --fuel allows more"], []))
-    for words, status in (([folder], 3), ([os.path.join(folder, "none")], 3), ([text], 3), ([LETTERS, "--fuel", "0"], 2),
-                          ([LETTERS, "--program", folder], 2), ([LETTERS, "--program", text], 2)):
-        ended, lines, errors = run(*words)
-        expect(f"{words}: {errors}", (ended, lines) == (status, []) and errors[-1].startswith("why_none") and "output" not in errors[-1])
-    for program, status in (("/bin/true", 0), ("/bin/false", 1)):
-        expect(program, run(LETTERS, "--program", program) == (1, [f"the program ended with status {status}"], []))
+@pytest.mark.parametrize("name", sorted(os.listdir(os.path.join(TOP, "examples", "reasons"))))
+def test_picture_as_it_stands(tmp_path: pathlib.Path, name: str) -> None:
+    picture = str(tmp_path / "picture.svg")
+    run(os.path.join(TOP, "examples", name.replace(".svg", ".dlx")), "--svg", picture)
+    assert content(picture) == content(os.path.join(TOP, "examples", "reasons", name)), f"the picture {name} as it stands"
 
 
-def main() -> int:
-    parser = parser_of(__doc__)
-    parser.add_argument("count", metavar="COUNT", type=number_from_one, nargs="?", default=100, help="how many problems (default 100)")
-    count = parser.parse_args().count
-    want_program(SOLVE_CLI)
-    random_problems(count)
-    path()
-    with tempfile.TemporaryDirectory() as folder:
-        known_reasons(folder)
-        odd_words(folder)
-    return trial.end()
+def test_picture_that_cannot_be_written(tmp_path: pathlib.Path) -> None:
+    status, _, errors = run("-", "--svg", str(tmp_path / "none" / "x.svg"), text=REASONS[0][0])
+    assert status == 3 and len(errors) == 1, "a picture that can't be written"
 
 
-if __name__ == "__main__":
-    sys.exit(main())
+def test_reason_that_does_not_hold(tmp_path: pathlib.Path) -> None:
+    wrong = tmp_path / "wrong"
+    wrong.write_text("#!/bin/sh\necho none; echo weights modulo 3; echo weigh 1 a; exit 1\n", encoding="ascii")
+    wrong.chmod(0o755)
+    status, lines, errors = run("-", "--program", str(wrong), text=REASONS[0][0])
+    assert (status, lines) == (2, []) and "doesn't hold" in errors[-1], "a reason that doesn't hold"
+
+
+def test_a_cover_and_little_fuel() -> None:
+    assert run(LETTERS) == (1, ["there is a cover"], []), "a cover"
+    assert run(LETTERS, "--fuel", "1") == (1, ["no answer within 1 visits; --fuel allows more"], []), "little fuel"
+
+
+@pytest.mark.parametrize("words, status", (
+    (["FOLDER"], 3), (["FOLDER/none"], 3), (["FOLDER/text"], 3), ([LETTERS, "--fuel", "0"], 2), ([LETTERS, "--program", "FOLDER"], 2),
+    ([LETTERS, "--program", "FOLDER/text"], 2)), ids=("a folder", "no file", "a refused file", "no fuel", "a folder for a program", "a text for a program"))
+def test_odd_words(tmp_path: pathlib.Path, words: list[str], status: int) -> None:
+    text = tmp_path / "text"
+    text.write_text("no program\nx\n", encoding="ascii")
+    text.chmod(0o755)
+    ended, lines, errors = run(*(word.replace("FOLDER", str(tmp_path)) for word in words))
+    assert (ended, lines) == (status, []) and errors[-1].startswith("why_none") and "output" not in errors[-1], f"{words}: {errors}"
+
+
+@pytest.mark.parametrize("program, status", (("/bin/true", 0), ("/bin/false", 1)))
+def test_programs_that_are_none(program: str, status: int) -> None:
+    assert run(LETTERS, "--program", program) == (1, [f"the program ended with status {status}"], []), program

@@ -1,30 +1,26 @@
-#!/usr/bin/env python3
-"""Tests what generate.py makes and what draw.py draws, with the built program between them.
-
-    python3 scripts/try_draw.py [--program PROGRAM]
+"""Tests what generate makes and what draw draws, with the built program between them.
 
 The examples must be written again byte for byte, and the pictures in examples/pictures drawn again. Of problems of each kind
 and of several sizes the drawn text is tested by the kind's own rules: queens that attack nobody, digits once in each row, and
-so on. Each SVG must be well formed, with all its shapes on the sheet. The last line is 'N passed, M failed'.
-
-It wants the program: (cd crates/solve_cli && rt run -- --version) builds it. The exit status is 0 where all passed, 1 where something
-failed, 2 for a mistake on the command line or where there is no program.
+so on. Each SVG must be well formed, with all its shapes on the sheet.
 """
 from __future__ import annotations
 
 import itertools
 import os
+import pathlib
 import random
 import re
 import stat
 import subprocess
 import sys
-import tempfile
 import xml.etree.ElementTree as tree
 from typing import Optional
 
-from built import parser_of, SOLVE_CLI, TOP, want_program, path_of
-from expected import Trial
+from hypothesis import HealthCheck, given, settings, strategies as some
+import pytest
+
+from built import TOP
 from zarfepoch import generate
 from zarfepoch.cover_files import read_problem
 from zarfepoch.picture_kinds import picture_of
@@ -67,9 +63,8 @@ WIDE = [
 ]
 
 
-class Drawing(Trial):
+class Drawing:
     def __init__(self, program: str, folder: str) -> None:
-        super().__init__()
         self.program, self.folder = program, folder
 
     def path(self, name: str, text: Optional[bytes] = None) -> str:
@@ -79,23 +74,30 @@ class Drawing(Trial):
                 opened.write(text)
         return path
 
-    def python(self, script: str, *words: str) -> subprocess.CompletedProcess[bytes]:
-        return subprocess.run([sys.executable, os.path.join(TOP, script), *words], stdout=subprocess.PIPE, stderr=subprocess.PIPE)
+    def python(self, module: str, *words: str) -> subprocess.CompletedProcess[bytes]:
+        return subprocess.run([sys.executable, "-m", f"zarfepoch.{module}", *words], stdout=subprocess.PIPE, stderr=subprocess.PIPE)
 
     def drawn(self, file: str, svg: str) -> list[str]:
         """What draw.py prints of the program's answer to a file, by lines."""
         answered = subprocess.run([self.program, "alone", file], stdout=subprocess.PIPE, stderr=subprocess.PIPE, timeout=300)
         answer = self.path("answer", answered.stdout)
-        ended = self.python("scripts/draw.py", file, answer, "--svg", svg)
-        self.expect(f"draw.py {file}: {ended.stderr.decode()}", ended.returncode == 0)
-        self.expect(f"the sheet of {file}", on_sheet(svg))
+        ended = self.python("draw", file, answer, "--svg", svg)
+        assert ended.returncode == 0, f"draw.py {file}: {ended.stderr.decode()}"
+        assert on_sheet(svg), f"the sheet of {file}"
         return ended.stdout.decode().split("\n")[:-1]
 
     def made(self, *words: str) -> list[str]:
         """The same of a problem that generate.py makes."""
-        ended = self.python("examples/generate.py", *words)
-        self.expect(f"generate.py {words}: {ended.stderr.decode()}", ended.returncode == 0)
+        ended = self.python("generate", *words)
+        assert ended.returncode == 0, f"generate.py {words}: {ended.stderr.decode()}"
         return self.drawn(self.path("made.dlx", ended.stdout), self.path("made.svg"))
+
+
+@pytest.fixture
+def trial(program: str, tmp_path: pathlib.Path) -> Drawing:
+    folder = tmp_path / "drawing"
+    folder.mkdir()
+    return Drawing(program, str(folder))
 
 
 def content(path: str) -> bytes:
@@ -197,58 +199,92 @@ def are_turned(lines: list[str], cubes: dict[str, list[str]]) -> bool:
 
 # ---- the tests
 
-def examples(trial: Drawing) -> None:
-    generate.HERE = trial.folder
-    generate.examples()
-    written = [name for name in sorted(os.listdir(trial.folder)) if name.endswith(".dlx")]
-    trial.expect(f"all examples are written: {len(written)}", len(written) == 31)
-    for name in written:
-        trial.expect(f"{name} as it stands", content(trial.path(name)) == content(os.path.join(EXAMPLES, name)))
-    for name in sorted(os.listdir(os.path.join(EXAMPLES, "pictures"))):
-        file, svg = os.path.join(EXAMPLES, name.replace(".svg", ".dlx")), trial.path("again.svg")
-        if name == "pentominoes-8x8.svg":
-            file = trial.path("hole.dlx", trial.python("examples/generate.py", *HOLE).stdout)
-        trial.drawn(file, svg)
-        trial.expect(f"the picture {name} as it stands", content(svg) == content(os.path.join(EXAMPLES, "pictures", name)))
+# examples that generate.py doesn't write
+BY_HAND = {"ignored.dlx", "letters.dlx", "petersen.dlx"}
+WRITTEN = sorted(name for name in os.listdir(EXAMPLES) if name.endswith(".dlx") and name not in BY_HAND)
 
 
-def beginnings(trial: Drawing) -> None:
-    for name, lines in BEGINNINGS.items():
-        drawn = trial.drawn(os.path.join(EXAMPLES, name + ".dlx"), trial.path("again.svg"))
-        trial.expect(f"the text of {name}", drawn[:len(lines)] == lines)
+@pytest.fixture(scope="module")
+def written_examples(tmp_path_factory: pytest.TempPathFactory) -> str:
+    """A folder with the examples as generate.py writes them."""
+    folder = str(tmp_path_factory.mktemp("examples"))
+    with pytest.MonkeyPatch.context() as patch:
+        patch.setattr(generate, "HERE", folder)
+        generate.examples()
+    return folder
 
 
-def kinds(trial: Drawing) -> None:
-    for n in (1, 4, 8, 12):
-        trial.expect(f"queens {n}", are_queens(trial.made("queens", str(n)), n))
-    for n in (3, 4, 8, 12):
-        trial.expect(f"langford {n}", are_pairs(trial.made("langford", str(n)), n))
-    trial.expect("sudoku", is_sudoku(trial.made("sudoku", SUDOKU), SUDOKU))
+def test_all_examples_are_written(written_examples: str) -> None:
+    written = [name for name in sorted(os.listdir(written_examples)) if name.endswith(".dlx")]
+    assert len(written) == 31 and written == WRITTEN, f"all examples are written: {len(written)}"
+
+
+@pytest.mark.parametrize("name", WRITTEN)
+def test_example_as_it_stands(written_examples: str, name: str) -> None:
+    assert content(os.path.join(written_examples, name)) == content(os.path.join(EXAMPLES, name)), f"{name} as it stands"
+
+
+@pytest.mark.parametrize("name", sorted(os.listdir(os.path.join(EXAMPLES, "pictures"))))
+def test_picture_as_it_stands(trial: Drawing, name: str) -> None:
+    file, svg = os.path.join(EXAMPLES, name.replace(".svg", ".dlx")), trial.path("again.svg")
+    if name == "pentominoes-8x8.svg":
+        file = trial.path("hole.dlx", trial.python("generate", *HOLE).stdout)
+    trial.drawn(file, svg)
+    assert content(svg) == content(os.path.join(EXAMPLES, "pictures", name)), f"the picture {name} as it stands"
+
+
+@pytest.mark.parametrize("name", BEGINNINGS)
+def test_text_of_an_example(trial: Drawing, name: str) -> None:
+    drawn, lines = trial.drawn(os.path.join(EXAMPLES, name + ".dlx"), trial.path("again.svg")), BEGINNINGS[name]
+    assert drawn[:len(lines)] == lines, f"the text of {name}"
+
+
+@pytest.mark.parametrize("n", (1, 4, 8, 12))
+def test_queens(trial: Drawing, n: int) -> None:
+    assert are_queens(trial.made("queens", str(n)), n), f"queens {n}"
+
+
+@pytest.mark.parametrize("n", (3, 4, 8, 12))
+def test_langford_pairs(trial: Drawing, n: int) -> None:
+    assert are_pairs(trial.made("langford", str(n)), n), f"langford {n}"
+
+
+@pytest.mark.parametrize("n", (7, 9, 13))
+def test_triples(trial: Drawing, n: int) -> None:
+    assert join_all(trial.made("triples", str(n)), n), f"triples {n}"
+
+
+def test_sudokus(trial: Drawing) -> None:
+    assert is_sudoku(trial.made("sudoku", SUDOKU), SUDOKU), "sudoku"
     nearly = "." + re.sub(r"\D", "", "".join(trial.made("sudoku", SUDOKU)))[1:70] + "." * 11
-    trial.expect("a sudoku with few empty cells", is_sudoku(trial.made("sudoku", nearly), nearly))
-    trial.expect("a sudoku in a file", is_sudoku(trial.made("sudoku", trial.path("grid", SUDOKU.encode())), SUDOKU))
-    for words in (["pentominoes", "5x12"], HOLE):
-        trial.expect(f"{words}", letters(trial.made(*words)) == sorted("FILNPTUVWXYZ" * 5))
-    trial.expect("five pieces", sorted(map(letters(trial.made("pentominoes", "5x5")).count, "FILNPTUVWXYZ")) == [0] * 7 + [5] * 5)
-    trial.expect("no tetrominoes", trial.made("tetrominoes", "4x4")[0].startswith("none"))
+    assert is_sudoku(trial.made("sudoku", nearly), nearly), "a sudoku with few empty cells"
+    assert is_sudoku(trial.made("sudoku", trial.path("grid", SUDOKU.encode())), SUDOKU), "a sudoku in a file"
+
+
+@pytest.mark.parametrize("words", (["pentominoes", "5x12"], HOLE), ids=" ".join)
+def test_twelve_pentominoes(trial: Drawing, words: list[str]) -> None:
+    assert letters(trial.made(*words)) == sorted("FILNPTUVWXYZ" * 5), f"{words}"
+
+
+def test_tilings(trial: Drawing) -> None:
+    assert sorted(map(letters(trial.made("pentominoes", "5x5")).count, "FILNPTUVWXYZ")) == [0] * 7 + [5] * 5, "five pieces"
+    assert trial.made("tetrominoes", "4x4")[0].startswith("none"), "no tetrominoes"
     # of the walls that the cells of 4 by 6 might have, 28 across and 28 down, each domino of 12 lacks one
-    trial.expect("dominoes", sum(walls(trial.made("dominoes", "4x6"))) == 4 * 7 + 5 * 6 - 12)
+    assert sum(walls(trial.made("dominoes", "4x6"))) == 4 * 7 + 5 * 6 - 12, "dominoes"
     twice = trial.made("dominoes", "4x4", "--without", "0,0", "--without", "3,3")
-    trial.expect("cells left out by two options", twice == trial.made("dominoes", "4x4", "--without", "0,0", "3,3"))
-    for n in (7, 9, 13):
-        trial.expect(f"triples {n}", join_all(trial.made("triples", str(n)), n))
+    assert twice == trial.made("dominoes", "4x4", "--without", "0,0", "3,3"), "cells left out by two options"
 
 
-def tables_and_graphs(trial: Drawing) -> None:
+def test_tables_and_graphs(trial: Drawing) -> None:
     borders = trial.path("map", MAP.encode())
     colours = dict(line.split() for line in trial.made("coloring", borders, "--colors", "red,blue,white"))
-    trial.expect("a map", len(colours) == 6 and all(colours[a] != colours[b] for a, b in (line.split() for line in MAP.splitlines())))
+    assert len(colours) == 6 and all(colours[a] != colours[b] for a, b in (line.split() for line in MAP.splitlines())), "a map"
     joined = [line.split(" - ") for line in trial.made("matching", borders)]
-    trial.expect("a matching", sorted(sum(joined, [])) == sorted(colours) and all(" ".join(pair) + "\n" in MAP for pair in joined))
+    assert sorted(sum(joined, [])) == sorted(colours) and all(" ".join(pair) + "\n" in MAP for pair in joined), "a matching"
     table = [line.split() for line in trial.made("timetable", os.path.join(EXAMPLES, "timetable.csv"))]
-    trial.expect("a timetable", table[0] == ["period", "ann", "bob", "5a", "5b", "room", "hall"] and len(table) == 5)
-    trial.expect("each lesson at three", all(sum(row.count(lesson) for row in table[2:]) == 3
-                                             for lesson in ("maths-5a", "maths-5b", "music-5a", "music-5b", "art-5a")))
+    assert table[0] == ["period", "ann", "bob", "5a", "5b", "room", "hall"] and len(table) == 5, "a timetable"
+    assert (all(sum(row.count(lesson) for row in table[2:]) == 3
+                                             for lesson in ("maths-5a", "maths-5b", "music-5a", "music-5b", "art-5a"))), "each lesson at three"
 
 
 def side(a: Point, b: Point, c: Point) -> float:
@@ -263,149 +299,159 @@ def crossings(svg: str) -> tuple[int, int]:
     return sum(side(a, b, c) * side(a, b, d) < 0 and side(c, d, a) * side(c, d, b) < 0 for a, b, c, d in pairs), len(lines)
 
 
-def maps(trial: Drawing) -> None:
-    """Planar maps by lot are drawn without crossing borders, and what isn't planar as a list."""
-    draw = random.Random(3)
-    for size in (4, 9, 16, 25):
-        at = {f"p{k}": (draw.random(), draw.random()) for k in range(size)}
-        borders: list[tuple[str, str]] = []
-        for a, b in draw.sample(list(itertools.combinations(at, 2)), size * (size - 1) // 2):
-            others = [(at[c], at[d]) for c, d in borders if not {a, b} & {c, d}]
-            if not any(side(at[a], at[b], c) * side(at[a], at[b], d) < 0 and side(c, d, at[a]) * side(c, d, at[b]) < 0 for c, d in others):
-                borders.append((a, b))
-        trial.made("coloring", trial.path("planar", "\n".join(map(" ".join, borders)).encode()), "--colors", "red,green,blue,yellow")
-        trial.expect(f"a planar map of {size}", crossings(trial.path("made.svg")) == (0, len(borders)))
+@pytest.mark.parametrize("size", (4, 9, 16, 25))
+def test_planar_map(trial: Drawing, size: int) -> None:
+    """Planar maps by lot are drawn without crossing borders."""
+    draw = random.Random(size)
+    at = {f"p{k}": (draw.random(), draw.random()) for k in range(size)}
+    borders: list[tuple[str, str]] = []
+    for a, b in draw.sample(list(itertools.combinations(at, 2)), size * (size - 1) // 2):
+        others = [(at[c], at[d]) for c, d in borders if not {a, b} & {c, d}]
+        if not any(side(at[a], at[b], c) * side(at[a], at[b], d) < 0 and side(c, d, at[a]) * side(c, d, at[b]) < 0 for c, d in others):
+            borders.append((a, b))
+    trial.made("coloring", trial.path("planar", "\n".join(map(" ".join, borders)).encode()), "--colors", "red,green,blue,yellow")
+    assert crossings(trial.path("made.svg")) == (0, len(borders)), f"a planar map of {size}"
+
+
+def test_maps(trial: Drawing) -> None:
+    """What isn't planar is drawn as a list."""
     five = "\n".join(f"{a} {b}" for a, b in itertools.combinations("abcde", 2))
     trial.made("coloring", trial.path("five", five.encode()), "--colors", "red,green,blue,yellow,white")
-    trial.expect("a map that isn't planar", crossings(trial.path("made.svg")) == (0, 0))
+    assert crossings(trial.path("made.svg")) == (0, 0), "a map that isn't planar"
     names = "Mecklenburg_Vorpommern Schleswig_Holstein\nMecklenburg_Vorpommern Niedersachsen\n"
     lines = trial.made("coloring", trial.path("names", names.encode()))
-    trial.expect("long names", {line.split()[0] for line in lines} == set(names.split()))
+    assert {line.split()[0] for line in lines} == set(names.split()), "long names"
 
 
-def boards_with_colours(trial: Drawing) -> None:
+def test_boards_with_colours(trial: Drawing) -> None:
     nine = trial.path("nine", "\n".join(generate.SQUARES).encode())
-    trial.expect("squares", are_squares(trial.made("squares", "3x3", nine, "--border", "grey"), "g"))
-    trial.expect("squares without a border", are_squares(trial.made("squares", "2x2", trial.path("four", FOUR))))
+    assert are_squares(trial.made("squares", "3x3", nine, "--border", "grey"), "g"), "squares"
+    assert are_squares(trial.made("squares", "2x2", trial.path("four", FOUR))), "squares without a border"
     ten = trial.path("ten", generate.WORDS.encode())
-    trial.expect("words", are_words(trial.made("words", ten), generate.WORDS.split()))
+    assert are_words(trial.made("words", ten), generate.WORDS.split()), "words"
     again = trial.made("word-square", trial.path("again", b"ab ba"), "--repeat")
-    trial.expect("words that come again", again == ["a b", "b a"])
+    assert again == ["a b", "b a"], "words that come again"
     crossword = trial.made("crossword", trial.path("grid", b".a\n#.\n"), trial.path("two", b"ca at\nat\nta"))
-    trial.expect("a crossword with a given letter", crossword == ["c a", "  t"])
+    assert crossword == ["c a", "  t"], "a crossword with a given letter"
 
 
-def puzzles(trial: Drawing) -> None:
+def test_puzzles(trial: Drawing) -> None:
     rows, columns = generate.NONOGRAM
     text = "\n\n".join("\n".join(" ".join(map(str, line)) for line in lines) for lines in (rows, columns))
     for name, file in (("a nonogram", text), ("a nonogram with Windows line ends", text.replace("\n", "\r\n") + "\r\n \r\n")):
-        trial.expect(name, are_blocks(trial.made("nonogram", trial.path("blocks", file.encode())), rows, columns))
-    trial.expect("no black cell", trial.made("nonogram", trial.path("white", b"0\n0\n\n0\n0\n0\n")) == ["...", "..."])
+        assert are_blocks(trial.made("nonogram", trial.path("blocks", file.encode())), rows, columns), name
+    assert trial.made("nonogram", trial.path("white", b"0\n0\n\n0\n0\n0\n")) == ["...", "..."], "no black cell"
     cubes = {line.split()[0]: line.split()[1:] for line in generate.CUBES}
-    trial.expect("cubes", are_turned(trial.made("cubes", trial.path("cubes", "\n".join(generate.CUBES).encode())), cubes))
+    assert are_turned(trial.made("cubes", trial.path("cubes", "\n".join(generate.CUBES).encode())), cubes), "cubes"
     sheet = trial.drawn(trial.path("sheet.dlx", b"A1 B1 A2 B2\nA1 B1\nA2 B2\n"), trial.path("sheet.svg"))
-    trial.expect("cells as in a spreadsheet", [line for line in sheet if line.startswith("+")] == ["+---+---+"] * 3)
+    assert [line for line in sheet if line.startswith("+")] == ["+---+---+"] * 3, "cells as in a spreadsheet"
     pair = trial.drawn(trial.path("pair.dlx", b"1 s0 s2\n1 s0 s2\n"), trial.path("pair.svg"))
-    trial.expect("places from 0", pair == ["1 . 1"])
+    assert pair == ["1 . 1"], "places from 0"
     listed = trial.drawn(trial.path("list.dlx", b"x y z\nx y\nz\n"), trial.path("list.svg"))
-    trial.expect("a list with its head", listed == ["cover 2", "x y", "z"])
+    assert listed == ["cover 2", "x y", "z"], "a list with its head"
     blank = "\n".join(SUDOKU[k:k + 9].replace(".", " ").rstrip() for k in range(0, 81, 9))
-    trial.expect("blanks", is_sudoku(trial.made("sudoku", trial.path("blank", blank.encode())), SUDOKU))
-    trial.expect("underscores", is_sudoku(trial.made("sudoku", SUDOKU.replace(".", "_")), SUDOKU))
+    assert is_sudoku(trial.made("sudoku", trial.path("blank", blank.encode())), SUDOKU), "blanks"
+    assert is_sudoku(trial.made("sudoku", SUDOKU.replace(".", "_")), SUDOKU), "underscores"
     for name, text in (("blank", blank), ("nine", SUDOKU)):
         ended = trial.made("sudoku", trial.path(name, (text.replace("\n", "\r\n") + "\r\n").encode()))
-        trial.expect(f"{name} with Windows line ends", is_sudoku(ended, SUDOKU))
+        assert is_sudoku(ended, SUDOKU), f"{name} with Windows line ends"
     dos = trial.made("crossword", trial.path("grid", b"\r\n.a\r\n#.\r\n\r\n"), trial.path("two", b"ca at\r\nat\r\nta"))
-    trial.expect("a crossword with Windows line ends", dos == ["c a", "  t"])
+    assert dos == ["c a", "  t"], "a crossword with Windows line ends"
     for words, number in ((["crossword", trial.path("late", b"\n\n.a\n#.x\n"), trial.path("two")], 4),
                           (["nonogram", trial.path("letter", b"\n1\nx\n\n1\n1\n")], 3)):
-        trial.expect(f"the line in {words[0]}", b", line %d: " % number in trial.python("examples/generate.py", *words).stderr)
+        assert b", line %d: " % number in trial.python("generate", *words).stderr, f"the line in {words[0]}"
     table = trial.path("week", b"lesson;teacher;class;rooms;periods;hours\nmaths;ann;5a;room;Mon1 Mon2 Tue1;2\nart;bob;5a;room hall;Mon1;1\n")
     week = trial.made("timetable", table)
-    trial.expect("named periods", [line.split() for line in week[2:]] == [["1", "art", "bob", "hall", "maths", "ann", "room"], ["2", "maths", "ann", "room"]]
-                 or [line.split() for line in week[2:]] == [["1", "art", "bob", "room", "maths", "ann", "room"], ["2", "maths", "ann", "room"]])
+    assert ([line.split() for line in week[2:]] == [["1", "art", "bob", "hall", "maths", "ann", "room"], ["2", "maths", "ann", "room"]]
+                 or [line.split() for line in week[2:]] == [["1", "art", "bob", "room", "maths", "ann", "room"], ["2", "maths", "ann", "room"]]), "named periods"
     table = trial.path("odd", 'lesson;teacher;class;rooms;periods\nart;bob;5a;"hall\t,";\u00b2,3\n'.encode())
     odd = [line.split() for line in trial.made("timetable", table)]
-    trial.expect("commas and tabs", odd[0] == ["period", "bob", "5a", "hall"] and [row[0] for row in odd[2:]] == ["\u00b2", "3"])
+    assert odd[0] == ["period", "bob", "5a", "hall"] and [row[0] for row in odd[2:]] == ["\u00b2", "3"], "commas and tabs"
     late = trial.path("late", b"lesson,teacher,class,rooms,periods\n\nart,,5a,hall,1\n")
-    trial.expect("the line in a table", b", line 3: teacher is missing" in trial.python("examples/generate.py", "timetable", late).stderr)
+    assert b", line 3: teacher is missing" in trial.python("generate", "timetable", late).stderr, "the line in a table"
 
 
-def written(trial: Drawing) -> None:
+def test_written(trial: Drawing) -> None:
     """A problem that is refused leaves no file, and one that is not is whole."""
     for words, status in ((["queens", "142"], 2), (["queens", "4"], 0)):
         out = trial.path(f"out-{status}.dlx")
-        ended = trial.python("examples/generate.py", *words, "--out", out)
+        ended = trial.python("generate", *words, "--out", out)
         there = [name for name in os.listdir(trial.folder) if name.startswith(f"out-{status}")]
-        trial.expect(f"{words} into a file", ended.returncode == status and len(there) == (status == 0) and not ended.stdout)
+        assert ended.returncode == status and len(there) == (status == 0) and not ended.stdout, f"{words} into a file"
     edges, out = trial.path("two\nlines \udce9", b"a b\nc d\n"), trial.path("out.dlx")
-    trial.python("examples/generate.py", "matching", edges, "--out", out)
-    trial.expect("a strange file's name in a comment", content(out).split(b"\n")[1:] == [b"a b c d", b"a b", b"c d", b""])
+    trial.python("generate", "matching", edges, "--out", out)
+    assert content(out).split(b"\n")[1:] == [b"a b c d", b"a b", b"c d", b""], "a strange file's name in a comment"
     link, target, pipe = trial.path("link.dlx"), trial.path("target.dlx"), trial.path("pipe")
     os.symlink(target, link)
-    trial.python("examples/generate.py", "queens", "--out", link, "4")
-    trial.expect("a link's file", os.path.islink(link) and b"(generate.py queens 4)" in content(target))
+    trial.python("generate", "queens", "--out", link, "4")
+    assert os.path.islink(link) and b"(generate.py queens 4)" in content(target), "a link's file"
     os.mkfifo(pipe)
     reader = os.open(pipe, os.O_RDONLY | os.O_NONBLOCK)
-    trial.python("examples/generate.py", "queens", "4", "--out", pipe)
-    trial.expect("a pipe stays one", stat.S_ISFIFO(os.stat(pipe).st_mode) and os.read(reader, 1 << 16) == content(target))
+    trial.python("generate", "queens", "4", "--out", pipe)
+    assert stat.S_ISFIFO(os.stat(pipe).st_mode) and os.read(reader, 1 << 16) == content(target), "a pipe stays one"
     os.close(reader)
     cover = trial.path("a cover", "cover 1\n\u00fc\n".encode())
-    for words in (["examples/generate.py", "matching", trial.path("latin", "\u00fc \u00e9\n".encode())],
-                  ["scripts/draw.py", trial.path("latin.dlx", "\u00fc\n\u00fc\n".encode()), cover, "--svg", "-"]):
-        ran = subprocess.run([sys.executable, os.path.join(TOP, words[0]), *words[1:]], env={**os.environ, "PYTHONIOENCODING": "latin-1"},
+    for words in (["generate", "matching", trial.path("latin", "\u00fc \u00e9\n".encode())],
+                  ["draw", trial.path("latin.dlx", "\u00fc\n\u00fc\n".encode()), cover, "--svg", "-"]):
+        ran = subprocess.run([sys.executable, "-m", f"zarfepoch.{words[0]}", *words[1:]], env={**os.environ, "PYTHONIOENCODING": "latin-1"},
                              capture_output=True)
-        trial.expect(f"{words[0]} writes UTF-8 wherever it is: {ran.stderr!r}", ran.returncode == 0 and "\u00fc".encode() in ran.stdout)
-    ended = trial.python("examples/generate.py", "queens", "4", "--out", "/dev/stdout")
-    trial.expect("the standard output by its name", ended.returncode == 0 and ended.stdout == content(target))
-    ended = trial.python("examples/generate.py", "queens", "4", "--out", trial.folder)
-    trial.expect("a folder", ended.returncode == 2 and not parts_in(os.path.dirname(trial.folder)))
+        assert ran.returncode == 0 and "\u00fc".encode() in ran.stdout, f"{words[0]} writes UTF-8 wherever it is: {ran.stderr!r}"
+    ended = trial.python("generate", "queens", "4", "--out", "/dev/stdout")
+    assert ended.returncode == 0 and ended.stdout == content(target), "the standard output by its name"
+    ended = trial.python("generate", "queens", "4", "--out", trial.folder)
+    assert ended.returncode == 2 and not parts_in(os.path.dirname(trial.folder)), "a folder"
     own, out = trial.path("own.dlx.part", b"own"), trial.path("own.dlx")
-    trial.python("examples/generate.py", "queens", "4", "--out", out)
-    trial.expect("a file of a like name stays", content(own) == b"own" and content(out) == content(target))
+    trial.python("generate", "queens", "4", "--out", out)
+    assert content(own) == b"own" and content(out) == content(target), "a file of a like name stays"
     old, cover = trial.path("old", b"old"), trial.path("cover", b"cover 3\nc e\na d f\nb g\n")
-    for words, status in ((["scripts/draw.py", os.path.join(EXAMPLES, "letters.dlx"), cover, "--svg", old], 3),
-                          (["examples/generate.py", "queens", "4", "--out", old], 2)):
-        script = ["sh", "-c", 'ulimit -f 0; exec "$@"', "sh", sys.executable, os.path.join(TOP, words[0])]
+    for words, status in ((["draw", os.path.join(EXAMPLES, "letters.dlx"), cover, "--svg", old], 3),
+                          (["generate", "queens", "4", "--out", old], 2)):
+        script = ["sh", "-c", 'ulimit -f 0; exec "$@"', "sh", sys.executable, "-m", f"zarfepoch.{words[0]}"]
         ended = subprocess.run([*script, *words[1:]], stdout=subprocess.PIPE, stderr=subprocess.PIPE)
         is_plain = ended.stderr.endswith(b"old can't be written: File too large\n") and not ended.stdout
-        trial.expect(f"{words[0]} keeps the old file", ended.returncode == status and is_plain and content(old) == b"old")
-        trial.expect(f"{words[0]} leaves no part", not parts_in(trial.folder))
+        assert ended.returncode == status and is_plain and content(old) == b"old", f"{words[0]} keeps the old file"
+        assert not parts_in(trial.folder), f"{words[0]} leaves no part"
 
 
-def strange_names(trial: Drawing) -> None:
-    """Random problems whose names mix those of all kinds, some of them with colours: each is drawn, if only as a list."""
-    draw, drawn = random.Random(1), 0
-    for _ in range(5000):
-        names = draw.sample(MIXED, draw.randint(1, 6))
-        primary = draw.randint(1, len(names))
-        lines = [names[:primary] + ["|"] * (primary < len(names)) + names[primary:]]
-        colours = COLOURS[:draw.choice([1, len(COLOURS)])]
-        for _ in range(draw.randint(0, 6)):
-            some = draw.sample(names, draw.randint(1, len(names)))
-            lines.append([name if name in names[:primary] else name + draw.choice(colours) for name in some])
-        problem = read_problem("\n".join(map(" ".join, lines)).encode())
-        chosen = draw.sample(problem.options, min(2, len(problem.options)))
-        paper = Paper("strange names")
-        picture = picture_of(problem, chosen, not chosen)
-        picture.draw(paper)
-        drawn += bool(paper.svg() and isinstance(picture.text(), list))
-    trial.expect("strange names", drawn == 5000)
+@some.composite
+def strange_problems(draw: some.DrawFn) -> str:
+    """Problems whose names mix those of all kinds, some of them with colours."""
+    names = draw(some.lists(some.sampled_from(MIXED), min_size=1, max_size=6, unique=True))
+    primary, colours = draw(some.integers(1, len(names))), draw(some.sampled_from([COLOURS[:1], sorted(set(COLOURS))]))
+    lines = [names[:primary] + ["|"] * (primary < len(names)) + names[primary:]]
+    for words in draw(some.lists(some.lists(some.sampled_from(names), min_size=1, unique=True), max_size=6)):
+        lines.append([name if name in names[:primary] else name + draw(some.sampled_from(colours)) for name in words])
+    return "\n".join(map(" ".join, lines))
 
 
-def wide_names(trial: Drawing) -> None:
+@settings(max_examples=5000, deadline=None, derandomize=True, database=None, suppress_health_check=[HealthCheck.too_slow])
+@given(strange_problems(), some.data())
+def test_strange_names(text: str, data: some.DataObject) -> None:
+    """Each of these is drawn, if only as a list."""
+    problem = read_problem(text.encode())
+    places = data.draw(some.lists(some.sampled_from(range(len(problem.options))), max_size=2, unique=True)) if problem.options else []
+    paper = Paper("strange names")
+    picture = picture_of(problem, [problem.options[place] for place in places], not places)
+    picture.draw(paper)
+    assert paper.svg() and isinstance(picture.text(), list), "strange names"
+
+
+@pytest.mark.parametrize("text, lines", WIDE, ids=[lines[0] for _, lines in WIDE])
+def test_columns_of_wide_names(text: str, lines: list[str]) -> None:
     """Columns stand below one another, however wide a terminal shows the letters in them."""
-    for text, lines in WIDE:
-        problem = read_problem(text.encode())
-        drawn = picture_of(problem, problem.options, False).text()
-        trial.expect(f"the columns of {drawn}", drawn == lines)
+    problem = read_problem(text.encode())
+    drawn = picture_of(problem, problem.options, False).text()
+    assert drawn == lines, f"the columns of {drawn}"
+
+
+def test_folded_lines() -> None:
     long = "数学" * 20 + " maths " + "Mathe" * 10
     parts = folded(long, 100, 13)
     are_whole = "".join(parts).replace(" ", "") == long.replace(" ", "")
-    trial.expect(f"lines that fit: {parts}", are_whole and all(text_width(part, 13) <= 100 for part in parts))
+    assert are_whole and all(text_width(part, 13) <= 100 for part in parts), f"lines that fit: {parts}"
 
 
-def refusals(trial: Drawing) -> None:
+def test_refusals(trial: Drawing) -> None:
     for words in (["queens", "142"], ["queens", "0"], ["langford", "200"], ["pentominoes", "7x9"], ["pentominoes", "5"],
                   ["sudoku", "8......."], ["sudoku", "11" + "." * 79], ["dominoes", "2x2", "--without", "2,0"],
                   ["timetable", trial.folder], ["coloring", "nothing"],
@@ -421,45 +467,29 @@ def refusals(trial: Drawing) -> None:
                   ["coloring", trial.path("one"), "--colors", "red,\udce9"],
                   ["timetable", trial.path("roles", b"lesson,teacher,class,rooms,periods\nart,bob,5a,bob,1\n")],
                   ["triples", "60"], ["matching", trial.path("edges", b"a b c\n")], ["coloring", trial.path("borders", b"a-b c\n")]):
-        ended = trial.python("examples/generate.py", *words)
+        ended = trial.python("generate", *words)
         is_plain = ended.stderr and b"Traceback" not in ended.stderr
-        trial.expect(f"{words} is refused", ended.returncode in (1, 2, 3) and not ended.stdout and is_plain)
+        assert ended.returncode in (1, 2, 3) and not ended.stdout and is_plain, f"{words} is refused"
     many = trial.path("many", b"".join(b"q%d a b c d\n" % number for number in range(961)))
-    ended = trial.python("examples/generate.py", "squares", "31x31", many)
-    trial.expect("many squares are refused before they are laid", ended.returncode == 3 and b"in more than 20,000 ways" in ended.stderr)
+    ended = trial.python("generate", "squares", "31x31", many)
+    assert ended.returncode == 3 and b"in more than 20,000 ways" in ended.stderr, "many squares are refused before they are laid"
     file = trial.path("bad.dlx", b"a b\na c\n")
     letters_file = os.path.join(EXAMPLES, "letters.dlx")
     for words in ([file, file], [letters_file, file], [letters_file, trial.folder], ["nothing", file]):
-        ended = trial.python("scripts/draw.py", *words)
-        trial.expect(f"draw.py {words} stops", ended.returncode == 3 and not ended.stdout and ended.stderr.startswith(b"draw: "))
+        ended = trial.python("draw", *words)
+        assert ended.returncode == 3 and not ended.stdout and ended.stderr.startswith(b"draw: "), f"draw.py {words} stops"
     for nothing, told in ((b"", b"is empty"), (b"no answer\n", b"says 'no answer'")):
-        ended = trial.python("scripts/draw.py", letters_file, trial.path("no-answer", nothing))
-        trial.expect(f"draw.py says of no answer: {ended.stderr!r}", ended.returncode == 3 and told in ended.stderr)
+        ended = trial.python("draw", letters_file, trial.path("no-answer", nothing))
+        assert ended.returncode == 3 and told in ended.stderr, f"draw.py says of no answer: {ended.stderr!r}"
     cover = trial.path("cover", b"cover 3\nc e\na d f\nb g\n")
     behind = (b"audit clean\n", b"by search of 5 states\n", b"by 1 learned clause\n")
     paths = [cover, *(trial.path(f"behind-{place}", content(cover) + line) for place, line in enumerate(behind))]
-    texts = [trial.python("scripts/draw.py", letters_file, path).stdout for path in paths]
-    trial.expect("an audit's line and what an answer rests on are passed over", texts[0] and len(set(texts)) == 1)
+    texts = [trial.python("draw", letters_file, path).stdout for path in paths]
+    assert texts[0] and len(set(texts)) == 1, "an audit's line and what an answer rests on are passed over"
     cliques = b"cliques\nclique k 0 1\ntoo little room\nneed 1 a\n"
     reasons = (b"", b"weights modulo 2\nweigh 1 a\n", cliques, b"by a run of 2 workers\n")
     nones = [trial.path(f"none-{place}", b"none\n" + reason) for place, reason in enumerate(reasons)]
-    texts = [trial.python("scripts/draw.py", letters_file, path).stdout for path in nones]
-    trial.expect("a reason behind none is passed over", texts[0] and len(set(texts)) == 1)
+    texts = [trial.python("draw", letters_file, path).stdout for path in nones]
+    assert texts[0] and len(set(texts)) == 1, "a reason behind none is passed over"
     wrong = trial.path("wrong", b"cover 1\nc e\n")
-    trial.expect("no exact cover", b"no exact cover" in trial.python("scripts/draw.py", letters_file, wrong).stderr)
-
-
-def main() -> int:
-    parser = parser_of(__doc__)
-    parser.add_argument("--program", type=path_of, default=SOLVE_CLI, help="the built program (default crates/solve_cli/out/solve_cli)")
-    given = parser.parse_args()
-    want_program(given.program)
-    with tempfile.TemporaryDirectory(prefix="try-draw-") as folder:
-        trial = Drawing(given.program, folder)
-        for tests in (examples, beginnings, kinds, tables_and_graphs, maps, boards_with_colours, puzzles, written, strange_names, wide_names, refusals):
-            tests(trial)
-    return trial.end()
-
-
-if __name__ == "__main__":
-    sys.exit(main())
+    assert b"no exact cover" in trial.python("draw", letters_file, wrong).stderr, "no exact cover"

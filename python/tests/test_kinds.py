@@ -1,39 +1,32 @@
-#!/usr/bin/env python3
 """Tries the command zarfepoch KIND: a puzzle or a school from its text to its answer, drawn, with whether it is the only one.
 
-    python3 scripts/try_kinds.py [--program PROGRAM] [--times N]
-
-Of each kind N puzzles are drawn by lot (1 where no number is given). What is drawn is tested by the kind's own rules, which know nothing of items and
+Of each kind some puzzles are drawn by lot. What is drawn is tested by the kind's own rules, which know nothing of items and
 options; whether an answer is the only one is compared with puzzles of which that is known. Reasons are told in the words of the puzzle, and which
 of its givens may be mistyped. All solutions are drawn and counted. Sudokus in all spellings are one, and texts that can't be meant are refused. Pages
 that are made of the commands' help have all their options.
-
-It wants the program: (cd crates/solve_cli && rt run -- --version) builds it. The last line is 'N passed, M failed'. The exit status is 0 where all
-passed, 1 where something failed, 2 for a mistake on the command line or where there is no program.
 """
 from __future__ import annotations
 
 import os
-import random
+import pathlib
 import re
 import subprocess
 import sys
-import tempfile
 from typing import Optional
 from xml.etree import ElementTree
 
-from built import number_from_one, parser_of, path_of, SOLVE_CLI, TOP, want_program
-from expected import Trial
+import pytest
+
+from built import TOP
+from drawn_kinds import PUZZLES, drawn_by_lot
 from plan_rules import faults
-from try_generate import PUZZLES
 
 ONLY, OTHER = "It is the only solution.", "There is another solution; --all draws each."
 UNIQUE = "8..........36......7..9.2...5...7.......457.....1...3...1....68..85...1..9....4.."
 
 
-class Solving(Trial):
+class Solving:
     def __init__(self, program: str, folder: str) -> None:
-        super().__init__()
         self.folder, self.environment = folder, {**os.environ, "ZARFEPOCH": program}
 
     def path(self, name: str, text: Optional[str] = None) -> str:
@@ -43,27 +36,31 @@ class Solving(Trial):
                 opened.write(text)
         return path
 
-    def run(self, *words: str, program: Optional[str] = None, script: str = "scripts/zarfepoch.py") -> tuple[int, list[str], str]:
+    def run(self, *words: str, program: Optional[str] = None, module: str = "zarfepoch") -> tuple[int, list[str], str]:
         """The exit status, the lines of the standard output, and standard error."""
         environment = {**self.environment, **({"ZARFEPOCH": program} if program else {})}
-        ended = subprocess.run([sys.executable, os.path.join(TOP, script), *words], capture_output=True, text=True, env=environment, timeout=300)
+        ended = subprocess.run([sys.executable, "-m", module, *words], capture_output=True, text=True, env=environment, timeout=300)
         return ended.returncode, ended.stdout.splitlines(), ended.stderr
 
 
-def all_kinds(trial: Solving, times: int) -> None:
+@pytest.fixture
+def trial(program: str, tmp_path: pathlib.Path) -> Solving:
+    return Solving(program, str(tmp_path))
+
+
+@pytest.mark.parametrize("kind", PUZZLES)
+def test_kind(trial: Solving, times: int, kind: str) -> None:
     """Each kind, from its text to the drawn answer, in one command."""
-    draw = random.Random(5)
-    for kind, (drawn, words, further) in PUZZLES.items():
-        for number in range(times):
-            text, is_right = drawn(draw)
-            paths = [trial.path(f"{kind}-{k}.txt", one) for k, one in enumerate(text if isinstance(text, tuple) else (text,))]
-            told = paths if words != ["board"] else [paths[0], "--pieces", paths[1]]
-            status, lines, errors = trial.run(*words, *told, *further, "--seconds", "60")
-            trial.expect(f"{kind} {number}: {errors} {lines}", status == 0 and is_right(lines[:-1]))
-            trial.expect(f"{kind} {number}: {lines[-1:]}", lines[-1] in (ONLY, OTHER))
+    _, words, further = PUZZLES[kind]
+    for number, (texts, is_right) in enumerate(drawn_by_lot(5, times)[kind]):
+        paths = [trial.path(f"{kind}-{k}.txt", one) for k, one in enumerate(texts)]
+        told = paths if words != ["board"] else [paths[0], "--pieces", paths[1]]
+        status, lines, errors = trial.run(*words, *told, *further, "--seconds", "60")
+        assert status == 0 and is_right(lines[:-1]), f"{kind} {number}: {errors} {lines}"
+        assert lines[-1] in (ONLY, OTHER), f"{kind} {number}: {lines[-1:]}"
 
 
-def only_ones(trial: Solving) -> None:
+def test_only_ones(trial: Solving) -> None:
     """Whether an answer is the only one."""
     grid = trial.path("grid.txt", "..\n#.\n")
     for words, told in ((["sudoku", UNIQUE], ONLY), (["sudoku", "." * 16], OTHER), (["langford", "3"], OTHER), (["queens", "1"], ONLY), (["queens", "6"], OTHER),
@@ -72,10 +69,10 @@ def only_ones(trial: Solving) -> None:
                         (["crossword", grid, trial.path("two.txt", "ab bc bd\n")], OTHER),
                         (["nonogram", trial.path("cross.txt", "1\n3\n1\n\n1\n3\n1\n")], ONLY), (["nonogram", trial.path("two-by-two.txt", "1\n1\n\n1\n1\n")], OTHER)):
         status, lines, errors = trial.run(*words)
-        trial.expect(f"{words}: {lines[-1:]} {errors}", status == 0 and lines[-1] == told)
-        trial.expect(f"{words} with --one", trial.run(*words, "--one")[1][-1] not in (ONLY, OTHER))
+        assert status == 0 and lines[-1] == told, f"{words}: {lines[-1:]} {errors}"
+        assert trial.run(*words, "--one")[1][-1] not in (ONLY, OTHER), f"{words} with --one"
     large = trial.path("large.txt", "\n".join(["30"] * 30) + "\n\n" + "\n".join(["30"] * 30) + "\n")
-    trial.expect("a board of 30 by 30", trial.run("nonogram", large)[1][-1] == ONLY)
+    assert trial.run("nonogram", large)[1][-1] == ONLY, "a board of 30 by 30"
 
 
 # what can't be, each with words that have to be told
@@ -84,20 +81,20 @@ NONE = ((["queens", "3"], "There is no solution."), (["langford", "5"], "each op
         (["dominoes", "4x4", "--without", "0,0", "3,3"], "each of these needs one: row 1 column 2"))
 
 
-def reasons(trial: Solving) -> None:
+def test_reasons(trial: Solving) -> None:
     """What is told where there is no answer, in the puzzle's words."""
     for words, told in (*NONE, (["sudoku", trial.path("four.txt", "12..\n..3.\n....\n...3\n")], "nothing is possible for a 3 in box 1"),
                                 (["sudoku", trial.path("eight.txt", SUDOKU.replace("7 .", "7 2", 1))], "nothing is possible for an 8 in box 2")):
         status, lines, errors = trial.run(*words)
-        trial.expect(f"{words}: {status} {lines} {errors}", status == (1 if told else 0) and told in "\n".join(lines))
+        assert status == (1 if told else 0) and told in "\n".join(lines), f"{words}: {status} {lines} {errors}"
     cubes = trial.path("cubes.txt", "one r r r r r r\ntwo r r r r r b\n")
     made = trial.path("cubes.dlx")
-    trial.run("cubes", cubes, "--out", made, script="examples/generate.py")
-    told = "\n".join(trial.run(made, script="scripts/why_none.py")[1])
-    trial.expect(f"cubes: {told}", "the cube two" in told and "b in front" in told)
+    trial.run("cubes", cubes, "--out", made, module="zarfepoch.generate")
+    told = "\n".join(trial.run(made, module="zarfepoch.why_none")[1])
+    assert "the cube two" in told and "b in front" in told, f"cubes: {told}"
     table = trial.path("few.csv", "lesson,teacher,class,rooms,periods\na,ann,5a,r,1 2\nb,ann,5b,r,1 2\nc,bob,5a,,1 2\nd,bob,5b,,2\ne,cy,5b,r,2 3\n")
     status, lines, errors = trial.run("timetable", table)
-    trial.expect(f"a timetable: {status} {lines} {errors}", status in (0, 1))
+    assert status in (0, 1), f"a timetable: {status} {lines} {errors}"
 
 
 # puzzles in which one thing is mistyped: the words of the command, a text, what is changed in it the first time it comes, and what has to be told
@@ -126,128 +123,131 @@ TEXTS = {"sudoku": "\n".join(UNIQUE[k:k + 9] for k in range(0, 81, 9)), "clash":
          "given": "a=red\nd=red\na b\nb c\nc d\n"}
 
 
-def mistyped(trial: Solving) -> None:
-    """Of a puzzle in which one thing is mistyped it is told which, within some seconds; and how far it came, where the time is over."""
-    for words, name, before, behind, told in MISTYPED:
-        path = os.path.join(TOP, "examples", f"{name}.txt")
-        text = TEXTS[name] if name in TEXTS else open(path, encoding="utf-8").read()
-        status, lines, errors = trial.run(*words, trial.path("mistyped.txt", text.replace(before, behind, 1)), "--seconds", "60")
-        found = [re.fullmatch("There is (?:a|exactly one) solution (.*)[.]", line) for line in lines]
-        trial.expect(f"{words} {told}: {status} {lines} {errors}", status == 1 and before in text and
-                     told in ", or ".join(match[1] for match in found if match).split(", or "))
+@pytest.mark.parametrize("words, name, before, behind, told", MISTYPED, ids=[told for *_, told in MISTYPED])
+def test_mistyped(trial: Solving, words: list[str], name: str, before: str, behind: str, told: str) -> None:
+    """Of a puzzle in which one thing is mistyped it is told which, within some seconds."""
+    path = os.path.join(TOP, "examples", f"{name}.txt")
+    text = TEXTS[name] if name in TEXTS else open(path, encoding="utf-8").read()
+    status, lines, errors = trial.run(*words, trial.path("mistyped.txt", text.replace(before, behind, 1)), "--seconds", "60")
+    found = [re.fullmatch("There is (?:a|exactly one) solution (.*)[.]", line) for line in lines]
+    assert (status == 1 and before in text and
+                 told in ", or ".join(match[1] for match in found if match).split(", or ")), f"{words} {told}: {status} {lines} {errors}"
+
+
+def test_wrong_givens(trial: Solving) -> None:
+    """What is told where more than one thing is wrong, and how far it came, where the time is over."""
     text = SUDOKU.replace("3 .", "3 1", 1).replace(". . . . 8", "1 . . . 8", 1)
     status, lines, _ = trial.run("sudoku", trial.path("wrong.txt", text), "--seconds", "60")
     told = "More than one of its 32 givens is wrong: no change of one alone helps."
-    trial.expect(f"more than one is wrong: {lines}", status == 1 and lines[-1] == told)
+    assert status == 1 and lines[-1] == told, f"more than one is wrong: {lines}"
     status, lines, _ = trial.run("sudoku", trial.path("wrong.txt", TEXTS["sudoku"].replace("8.", "84", 1)), "--seconds", "60")
     begins = [line[:30] for line in lines[-2:]]
-    trial.expect(f"what leaves one solution comes first: {lines}", begins == ["There is exactly one solution ", "With one of 20 other changes t"])
+    assert begins == ["There is exactly one solution ", "With one of 20 other changes t"], f"what leaves one solution comes first: {lines}"
     status, lines, _ = trial.run("langford", "5")
-    trial.expect(f"nothing is given: {lines}", status == 1 and not any("solution with" in line or "givens" in line for line in lines))
+    assert status == 1 and not any("solution with" in line or "givens" in line for line in lines), f"nothing is given: {lines}"
     slow = trial.path("slow", f"#!/bin/sh\nsleep 0.2\nexec {trial.environment['ZARFEPOCH']} \"$@\"\n")
     os.chmod(slow, 0o755)
     status, lines, _ = trial.run("sudoku", trial.path("late.txt", TEXTS["sudoku"].replace("8.", "84", 1)), "--seconds", "1", program=slow)
-    trial.expect(f"the time is over: {lines}", status == 1 and re.fullmatch(r"\([1-9]\d? of 22 givens were looked at, in 1 seconds?\.\)", lines[-1]))
+    assert status == 1 and re.fullmatch(r"\([1-9]\d? of 22 givens were looked at, in 1 seconds?\.\)", lines[-1]), f"the time is over: {lines}"
 
 
-def all_solutions(trial: Solving) -> None:
+def test_all_solutions(trial: Solving) -> None:
     """All solutions of a puzzle, drawn or counted, and the help of the command and of each kind."""
     for words, count in ((["queens", "6"], 4), (["queens", "8"], 92), (["sudoku", UNIQUE], 1), (["langford", "4"], 2), (["sudoku", "." * 16], 288)):
         status, lines, errors = trial.run(*words, "--count")
         told = f"There are {count} solutions." if count > 1 else "There is 1 solution."
-        trial.expect(f"{words} counted: {lines} {errors}", status == 0 and lines == [told])
+        assert status == 0 and lines == [told], f"{words} counted: {lines} {errors}"
     status, lines, errors = trial.run("queens", "6", "--all")
     drawn = "\n".join(lines[:-1]).strip().split("\n\n")
-    trial.expect(f"all queens: {lines} {errors}", status == 0 and len(set(drawn)) == len(drawn) == 4 and lines[-1] == "There are 4 solutions.")
+    assert status == 0 and len(set(drawn)) == len(drawn) == 4 and lines[-1] == "There are 4 solutions.", f"all queens: {lines} {errors}"
     status, lines, _ = trial.run("langford", "5", "--all")
-    trial.expect(f"none of all: {lines}", status == 1 and lines[0] == "There is no solution.")
+    assert status == 1 and lines[0] == "There is no solution.", f"none of all: {lines}"
     status, lines, _ = trial.run("queens", "20", "--count", "--seconds", "1")
     told = r"There are at least [\d,]+ solutions: the time was over before the end."
-    trial.expect(f"too many: {lines}", status == 0 and re.fullmatch(told, lines[0]))
-    trial.expect("a picture of all", trial.run("queens", "4", "--all", "--out", trial.path("all.svg"))[0] == 2)
+    assert status == 0 and re.fullmatch(told, lines[0]), f"too many: {lines}"
+    assert trial.run("queens", "4", "--all", "--out", trial.path("all.svg"))[0] == 2, "a picture of all"
     told = "\n".join(trial.run("--help")[1])
-    trial.expect("all kinds in the help", all(re.search(rf"\b{kind}\b", told) for kind in ("queens", "kenken", "word-square", "timetable", "cubes")))
+    assert all(re.search(rf"\b{kind}\b", told) for kind in ("queens", "kenken", "word-square", "timetable", "cubes")), "all kinds in the help"
     told = "\n".join(trial.run("timetable", "--help")[1])
-    trial.expect(f"the columns of a timetable: {told}", all(word in told for word in ("a_day", "apart", "holes", "who,periods,away")))
-    trial.expect("what a sudoku reads", "--boxes 4x3" in "\n".join(trial.run("sudoku", "--help")[1]))
+    assert all(word in told for word in ("a_day", "apart", "holes", "who,periods,away")), f"the columns of a timetable: {told}"
+    assert "--boxes 4x3" in "\n".join(trial.run("sudoku", "--help")[1]), "what a sudoku reads"
 
 
-def schools(trial: Solving) -> None:
+def test_schools(trial: Solving) -> None:
     """A school in one command: its plan as a table, and as pictures of some."""
     table, rules = (os.path.join(TOP, "examples", name) for name in ("school.csv", "rules.csv"))
     plan = trial.path("plan.csv")
     status, lines, errors = trial.run("timetable", table, "--rules", rules, "--csv", plan, "--plan", "5a", "bell")
-    trial.expect(f"a plan: {status} {errors} {lines[:2]}", status == 0 and [line.split()[0] for line in lines if "Mon" in line] == ["bell", "5a"][::-1] or
-                 [line.split()[0] for line in lines if "Mon" in line] == ["bell", "5a"])
+    assert (status == 0 and [line.split()[0] for line in lines if "Mon" in line] == ["bell", "5a"][::-1] or
+                 [line.split()[0] for line in lines if "Mon" in line] == ["bell", "5a"]), f"a plan: {status} {errors} {lines[:2]}"
     with open(table, encoding="utf-8") as lessons, open(rules, encoding="utf-8") as ruled, open(plan, encoding="utf-8") as planned:
         found = faults(lessons.read().replace("hours", "times"), ruled.read(), planned.read())
-    trial.expect(f"the plan is right: {found}", not found)
+    assert not found, f"the plan is right: {found}"
     status, lines, errors = trial.run("timetable", table, "--rules", rules, "--keep", plan, "--csv", "-")
     with open(plan, encoding="utf-8") as planned:
-        trial.expect(f"the plan is kept: {errors}", status == 0 and lines == planned.read().splitlines())
-    trial.expect(f"all stay: {errors}", "32 of 32 times of lessons stay" in errors and " from " not in errors)
+        assert status == 0 and lines == planned.read().splitlines(), f"the plan is kept: {errors}"
+    assert "32 of 32 times of lessons stay" in errors and " from " not in errors, f"all stay: {errors}"
     two = trial.path("one.csv", "lesson;teacher;class;periods;times\nart;ann;5a;Mon1-3 Tue1-3;3\n")
     kept = trial.path("kept.csv", "lesson;class;periods\nart;5a;Mon1\nart;5a;Mon2\nart;5a;Tue2\n")
     for away, count, days in (("Mon1", 2, {"Mon2", "Tue2"}), ("Mon", 1, {"Tue1", "Tue2", "Tue3"})):
         without = trial.path("away.csv", f"who;away\nann;{away}\n")
         status, lines, errors = trial.run("timetable", two, "--rules", without, "--keep", kept, "--csv", "-")
         begins = {line.split(";")[4] for line in lines[1:]}
-        trial.expect(f"{count} stay without {away}: {status} {errors} {begins}",
-                     status == 0 and f"{count} of 3 times of lessons stay" in errors and days <= begins)
+        assert status == 0 and f"{count} of 3 times of lessons stay" in errors and days <= begins, f"{count} stay without {away}: {status} {errors} {begins}"
         moved = sorted(begins - {"Mon1", "Mon2", "Tue2"})
-        trial.expect(f"what moved: {errors}", f"  art of 5a: from {'Mon1' if count == 2 else 'Mon1 Mon2'} to {' '.join(moved)}\n" in errors)
+        assert f"  art of 5a: from {'Mon1' if count == 2 else 'Mon1 Mon2'} to {' '.join(moved)}\n" in errors, f"what moved: {errors}"
     rows = [f"l{k};{one}t{k % 9};{one}{k // 9};;;3;;1" for one in "ab" for k in range(54)]
     large = trial.path("two.csv", "\n".join(["lesson;teacher;class;rooms;periods;times;length;a_day", *rows]) + "\n")
     week = trial.path("week.csv", "who;periods\nall;Mon-Fri1-6\n")
     status, lines, errors = trial.run("timetable", large, "--rules", week, "--csv", trial.path("parts.csv"), "--plan", "classes")
     parts = sorted(name for name in os.listdir(trial.folder) if name.startswith("parts-"))
-    trial.expect(f"two parts: {status} {errors} {parts}", status == 0 and parts == ["parts-1.csv", "parts-2.csv"])
+    assert status == 0 and parts == ["parts-1.csv", "parts-2.csv"], f"two parts: {status} {errors} {parts}"
 
 
-def plan_files(trial: Solving) -> None:
+def test_plan_files(trial: Solving) -> None:
     """Plans as people read them: one table of all that are wanted, and a folder with files of each."""
     week, plan, folder = trial.path("grid.csv"), trial.path("rows.csv"), trial.path("plans")
     status, lines, errors = trial.run("timetable", os.path.join(TOP, "examples", "school.csv"), "--plan", "5a", "teachers", "--grid", week, "--csv", plan,
                                       "--out-dir", folder)
-    trial.expect(f"plans in files: {status} {errors}", status == 0 and not lines)
+    assert status == 0 and not lines, f"plans in files: {status} {errors}"
     with open(week, encoding="utf-8") as grid, open(plan, encoding="utf-8") as rows:
         blocks, given = grid.read().split("\n\n"), [line.split(";") for line in rows.read().splitlines()[1:]]
     tables = [[row.split(";") for row in block.splitlines()] for block in blocks]
     cells = {(rows[0][0], f"{day}{row[0]}"): cell.split()[0] for rows in tables for row in rows[1:] for day, cell in zip(rows[0][1:], row[1:]) if cell}
     wanted = {(who, period): lesson for lesson, teachers, classes, _, periods, _ in given for period in periods.split()
               for who in f"{teachers}+{classes}".split("+") if who != "5b"}
-    trial.expect(f"periods down and days across: {cells}", wanted == cells and len(blocks) == 6)
+    assert wanted == cells and len(blocks) == 6, f"periods down and days across: {cells}"
     found = {name: os.path.getsize(os.path.join(folder, name)) for name in os.listdir(folder)}
-    trial.expect(f"files of each: {found}", found.keys() == {f"{who}.{ending}" for who, _ in wanted for ending in ("csv", "svg")} and all(found.values()))
+    assert found.keys() == {f"{who}.{ending}" for who, _ in wanted for ending in ("csv", "svg")} and all(found.values()), f"files of each: {found}"
     for name, block in zip(("5a", "adams", "bell"), blocks):
         with open(os.path.join(folder, f"{name}.csv"), encoding="utf-8") as one:
-            trial.expect(f"the table of {name}", one.read().strip() == block.strip())
-        trial.expect(f"the picture of {name}", name in "".join(ElementTree.parse(os.path.join(folder, f"{name}.svg")).getroot().itertext()))
+            assert one.read().strip() == block.strip(), f"the table of {name}"
+        assert name in "".join(ElementTree.parse(os.path.join(folder, f"{name}.svg")).getroot().itertext()), f"the picture of {name}"
 
 
-def odd_plans(trial: Solving) -> None:
+def test_odd_plans(trial: Solving) -> None:
     """Plans of names that can't be those of files, plans without days, and what can't be written."""
     odd = trial.path("odd.csv", "lesson;class;teacher;periods\nart;5/a;.;1-3\nmusic;5_a;bob;1-3\nsport;..;cy;1-3\n")
     folder = trial.path("odd-plans")
     status, _, errors = trial.run("timetable", odd, "--plan", "all", "--out-dir", folder)
     found = sorted(name for name in os.listdir(folder) if name.endswith(".svg"))
-    trial.expect(f"names of files: {status} {errors} {found}", status == 0 and found == ["5_a-2.svg", "5_a.svg", "_-2.svg", "_.svg", "bob.svg", "cy.svg"])
+    assert status == 0 and found == ["5_a-2.svg", "5_a.svg", "_-2.svg", "_.svg", "bob.svg", "cy.svg"], f"names of files: {status} {errors} {found}"
     status, lines, errors = trial.run("timetable", odd, "--plan", "5_a", "--grid", "-")
-    trial.expect(f"a plan without days: {lines}", status == 0 and lines[0] == "5_a;lesson" and len(lines) == 4)
+    assert status == 0 and lines[0] == "5_a;lesson" and len(lines) == 4, f"a plan without days: {lines}"
     for what, wanted, words in (("a folder that is a file", 3, ["--out-dir", odd]), ("two on the standard output", 2, ["--grid", "-", "--csv", "-"]),
                                 ("a table nowhere", 3, ["--grid", trial.path("nowhere/x.csv")])):
         status, _, errors = trial.run("timetable", odd, *words)
-        trial.expect(f"{what}: {status} {errors}", status == wanted and errors.startswith("zarfepoch: ") and "Traceback" not in errors)
+        assert status == wanted and errors.startswith("zarfepoch: ") and "Traceback" not in errors, f"{what}: {status} {errors}"
 
 
-def written(trial: Solving) -> None:
+def test_written(trial: Solving) -> None:
     """Files that are wanted, and exit statuses."""
     picture, problem = trial.path("picture.svg"), trial.path("problem.dlx")
     status, lines, _ = trial.run("sudoku", UNIQUE, "--out", picture, "--problem", problem)
-    trial.expect("a picture", status == 0 and lines == [ONLY] and ElementTree.parse(picture).getroot().tag.endswith("svg"))
-    trial.expect("the problem", trial.run(problem, script="scripts/explain.py")[0] == 0)
+    assert status == 0 and lines == [ONLY] and ElementTree.parse(picture).getroot().tag.endswith("svg"), "a picture"
+    assert trial.run(problem, module="zarfepoch.explain")[0] == 0, "the problem"
     status, lines, _ = trial.run("sudoku", UNIQUE, "--out", "-")
-    trial.expect("a picture on the standard output", status == 0 and ElementTree.fromstring("\n".join(lines)).tag.endswith("svg"))
+    assert status == 0 and ElementTree.fromstring("\n".join(lines)).tag.endswith("svg"), "a picture on the standard output"
     rows: tuple[tuple[str, list[str], int], ...] = (
         ("no kind", [], 2), ("an unknown kind", ["sudokus", "x"], 2), ("a file that isn't there", ["jigsaw", "nothing.txt"], 3),
         ("plain by counting", ["sudoku", "11" + "." * 14], 1),
@@ -257,54 +257,54 @@ def written(trial: Solving) -> None:
     late = trial.path("late", f"#!/bin/sh\ncat > /dev/null\necho no answer\necho '{why}' >&2\nexit 4\n")
     os.chmod(late, 0o755)
     status, _, errors = trial.run("langford", "4", "--seconds", "1", program=late)
-    trial.expect(f"too little time: {status} {errors}", (status, errors) == (4, "zarfepoch: no answer: the time is over: try more --seconds\n"))
+    assert (status, errors) == (4, "zarfepoch: no answer: the time is over: try more --seconds\n"), f"too little time: {status} {errors}"
     for what, words, wanted in rows:
         status, lines, errors = trial.run(*words)
-        trial.expect(f"{what}: {status} {errors}", status == wanted and errors.startswith("zarfepoch: ") | errors.startswith("usage: ") and "Traceback" not in errors)
+        assert status == wanted and errors.startswith("zarfepoch: ") | errors.startswith("usage: ") and "Traceback" not in errors, f"{what}: {status} {errors}"
     slow = trial.path("slow", f"#!/bin/sh\nsleep 11\nexec {trial.environment['ZARFEPOCH']} \"$@\"\n")
     os.chmod(slow, 0o755)
     status, lines, errors = trial.run("queens", "4", "--one", program=slow)
-    trial.expect(f"it says that it goes on: {errors}", status == 0 and "still looking, for 10 seconds now" in errors and "this took 1" in errors)
+    assert status == 0 and "still looking, for 10 seconds now" in errors and "this took 1" in errors, f"it says that it goes on: {errors}"
     for program, wanted in (("/dev/null", 2), ("/bin/false", 3), ("/bin/true", 3)):
         status, _, errors = trial.run("queens", "4", program=program)
-        trial.expect(f"the program {program}: {status} {errors}", status == wanted and "Traceback" not in errors)
+        assert status == wanted and "Traceback" not in errors, f"the program {program}: {status} {errors}"
 
 
 SUDOKU = """5 3 . . 7 . . . .\n6 . . 1 9 5 . . .\n. 9 8 . . . . 6 .\n8 . . . 6 . . . 3\n4 . . 8 . 3 . . 1\n7 . . . 2 . . . 6
 . 6 . . . . 2 8 .\n. . . 4 1 9 . . 5\n. . . . 8 . . 7 9\n"""
 
 
-def spellings(trial: Solving) -> None:
+def test_spellings(trial: Solving) -> None:
     """One sudoku in many spellings; boxes in both ways; words in capitals and small letters."""
     bare = SUDOKU.replace(" ", "")
     texts = {"commas": SUDOKU.replace(" ", ",").replace(".", ""), "semicolons": SUDOKU.replace(" ", ";").replace(".", ""),
              "tabs": SUDOKU.replace(" ", "\t").replace(".", ""), "commas at the ends": SUDOKU.replace(" ", ",").replace(".", "").replace("\n", ",\n"),
              "titles": f"# Monday 12 March, hard\n{SUDOKU}\nvery hard\n", "a title and blanks": "No. 123\n" + bare.replace(".", " "),
              "a title in one line": "Sudoku 7\n\n" + bare, **{mark: bare.replace(".", mark) for mark in "-*x?0_\u00b7"}}
-    wanted = trial.run("sudoku", trial.path("sudoku.txt", SUDOKU), script="examples/generate.py")[1][1:]
+    wanted = trial.run("sudoku", trial.path("sudoku.txt", SUDOKU), module="zarfepoch.generate")[1][1:]
     for what, text in texts.items():
-        status, lines, errors = trial.run("sudoku", trial.path("sudoku.txt", text), script="examples/generate.py")
-        trial.expect(f"a sudoku with {what}: {errors}", status == 0 and lines[1:] == wanted)
+        status, lines, errors = trial.run("sudoku", trial.path("sudoku.txt", text), module="zarfepoch.generate")
+        assert status == 0 and lines[1:] == wanted, f"a sudoku with {what}: {errors}"
     six = trial.path("six.txt", "6.....\n..6...\n" + "......\n" * 4)
     status, _, errors = trial.run("sudoku", six)
-    trial.expect(f"boxes of two rows: {errors}", status == 1 and "--boxes 3x2 turns them" in errors and "line 2" in errors)
+    assert status == 1 and "--boxes 3x2 turns them" in errors and "line 2" in errors, f"boxes of two rows: {errors}"
     status, lines, errors = trial.run("sudoku", six, "--boxes", "3x2", "--one")
     rows = [line.replace("|", " ").split() for line in lines if re.search(r"\d", line)]
     boxes = [{rows[r][c] for r in range(top, top + 3) for c in range(left, left + 2)} for top in (0, 3) for left in (0, 2, 4)]
-    trial.expect(f"boxes of three rows: {lines} {errors}", status == 0 and all(len(box) == 6 for box in boxes))
-    trial.expect("boxes that can't be", trial.run("sudoku", six, "--boxes", "2x2")[0] == 3)
+    assert status == 0 and all(len(box) == 6 for box in boxes), f"boxes of three rows: {lines} {errors}"
+    assert trial.run("sudoku", six, "--boxes", "2x2")[0] == 3, "boxes that can't be"
     grid, words = trial.path("grid.txt", "..\n#.\n"), trial.path("words.txt", "AB\nbc\nx\nx1y\n")
-    trial.expect("capitals", trial.run("crossword", grid, words)[0] == 3)
+    assert trial.run("crossword", grid, words)[0] == 3, "capitals"
     status, _, errors = trial.run("crossword", trial.path("capitals.txt", "AB\n"), trial.path("small.txt", "ab\n"))
-    trial.expect(f"what makes capitals alike: {errors}", status == 1 and "with --ignore-case they are alike" in errors)
+    assert status == 1 and "with --ignore-case they are alike" in errors, f"what makes capitals alike: {errors}"
     status, lines, errors = trial.run("word-square", "--ignore-case", "--one", trial.path("square.txt", "Ab\ncd\nac\nbd\n"))
-    trial.expect(f"a square of words in two cases: {lines} {errors}", status == 0 and lines in (["a b", "c d"], ["a c", "b d"]))
+    assert status == 0 and lines in (["a b", "c d"], ["a c", "b d"]), f"a square of words in two cases: {lines} {errors}"
     status, lines, errors = trial.run("crossword", grid, words, "--ignore-case")
-    trial.expect(f"capitals and small letters: {lines} {errors}", status == 0 and lines[:2] == ["a b", "  c"] and "2 words of 4" in errors)
+    assert status == 0 and lines[:2] == ["a b", "  c"] and "2 words of 4" in errors, f"capitals and small letters: {lines} {errors}"
     pieces = trial.path("pieces.txt", "A\nxx.\n.xx\nB\nxx\n")
     status, _, errors = trial.run("board", "2x3", "--pieces", pieces)
-    trial.expect(f"pieces without an empty line: {errors}", status == 3 and "line 4" in errors and "an empty line parts it" in errors)
-    trial.expect("pieces of capitals", trial.run("board", "2x2", "--pieces", trial.path("capital.txt", "A\nXX\nXX\n"))[0] == 0)
+    assert status == 3 and "line 4" in errors and "an empty line parts it" in errors, f"pieces without an empty line: {errors}"
+    assert trial.run("board", "2x2", "--pieces", trial.path("capital.txt", "A\nXX\nXX\n"))[0] == 0, "pieces of capitals"
 
 
 # puzzles of numbers and signs that nobody can mean, or that plainly have no solution: what they are, the exit status, the line, the kind and the text
@@ -326,57 +326,52 @@ WRONG = (
     ("two given colours", 3, "3", "coloring", "a b\na=red\na=blue\n"), ("a hyper sudoku with a digit twice in a window", 1, "3", "hyper", ".........\n.1.......\n..1......\n" + ".........\n" * 6))
 
 
-def number_grids(trial: Solving) -> None:
-    """Kinds of numbers and signs: the examples have one solution each, and what can't be is told with its line."""
-    for kind in ("dominosa", "tents", "shikaku", "futoshiki", "kenken", "binairo"):
-        status, lines, errors = trial.run(kind, os.path.join(TOP, "examples", f"{kind}.txt"))
-        trial.expect(f"{kind}: {lines} {errors}", status == 0 and lines[-1] == ONLY)
-    for what, wanted, line, kind, text in WRONG:
-        words = [kind, trial.path("wrong.txt", text)] if kind != "hyper" else ["sudoku", trial.path("wrong.txt", text), "--hyper"]
-        status, lines, errors = trial.run(*words)
-        trial.expect(f"{what}: {status} {errors}", status == wanted and (line is None or f"line {line}" in errors) and "Traceback" not in errors)
+@pytest.mark.parametrize("kind", ("dominosa", "tents", "shikaku", "futoshiki", "kenken", "binairo"))
+def test_example_of_numbers(trial: Solving, kind: str) -> None:
+    """Kinds of numbers and signs: the examples have one solution each."""
+    status, lines, errors = trial.run(kind, os.path.join(TOP, "examples", f"{kind}.txt"))
+    assert status == 0 and lines[-1] == ONLY, f"{kind}: {lines} {errors}"
+
+
+@pytest.mark.parametrize("what, wanted, line, kind, text", WRONG, ids=[what for what, *_ in WRONG])
+def test_wrong_numbers(trial: Solving, what: str, wanted: int, line: Optional[str], kind: str, text: str) -> None:
+    """What can't be is told with its line."""
+    words = [kind, trial.path("wrong.txt", text)] if kind != "hyper" else ["sudoku", trial.path("wrong.txt", text), "--hyper"]
+    status, _, errors = trial.run(*words)
+    assert status == wanted and (line is None or f"line {line}" in errors) and "Traceback" not in errors, f"{what}: {status} {errors}"
+
+
+def test_windows_and_colours(trial: Solving) -> None:
     status, lines, errors = trial.run("sudoku", os.path.join(TOP, "examples", "hyper.txt"), "--hyper")
     rows = [re.findall(r"\d", line) for line in lines if re.search(r"\d", line)]
     windows = [{rows[r][c] for r in range(top, top + 3) for c in range(left, left + 3)} for top in (1, 5) for left in (1, 5)]
-    trial.expect(f"windows: {lines} {errors}", status == 0 and lines[-1] == ONLY and all(len(window) == 9 for window in windows))
+    assert status == 0 and lines[-1] == ONLY and all(len(window) == 9 for window in windows), f"windows: {lines} {errors}"
     borders = trial.path("map.txt", "a b\nb c\nc a\nc d\na=rot, d=rot\n")
     status, lines, errors = trial.run("coloring", borders, "--colors", "rot,gr\u00fcn,blau", "--one", "--out", trial.path("map.svg"))
     with open(trial.path("map.svg"), encoding="utf-8") as opened:
-        trial.expect("red is red in German", status == 0 and "#f0a39a" in opened.read())
+        assert status == 0 and "#f0a39a" in opened.read(), "red is red in German"
     lines = trial.run("coloring", borders, "--colors", "rot,gr\u00fcn,blau", "--one")[1]
-    trial.expect(f"given colours: {lines}", lines[0].split() == ["a", "rot"] and lines[3].split() == ["d", "rot"])
+    assert lines[0].split() == ["a", "rot"] and lines[3].split() == ["d", "rot"], f"given colours: {lines}"
 
 
-def pages(trial: Solving) -> None:
+def command_pages(folder: str) -> tuple[int, list[str], str]:
+    """What the script says that writes the pages."""
+    ended = subprocess.run([sys.executable, os.path.join(TOP, "scripts", "command_pages.py"), folder], capture_output=True, text=True)
+    return ended.returncode, ended.stdout.splitlines(), ended.stderr
+
+
+def test_pages(trial: Solving) -> None:
     """Man pages and completions of all commands, from their help."""
     folder = trial.path("pages")
-    status, _, errors = trial.run(folder, script="scripts/command_pages.py")
-    trial.expect(f"the pages: {errors}", status == 0 and len(os.listdir(folder)) == 30)
+    status, _, errors = command_pages(folder)
+    assert status == 0 and len(os.listdir(folder)) == 30, f"the pages: {errors}"
     for name, words, options in (("zarfepoch", "zarfepoch timetable --", {"--rules", "--keep", "--csv"}), ("zarfepoch", "zarfepoch sud", {"sudoku"}),
                                  ("zarfepoch-generate", "zarfepoch-generate ", {"timetable", "--help"}), ("zarfepoch-draw", "zarfepoch-draw --", {"--svg"})):
         function = "_" + name.replace("-", "_")
         typed = words.strip() + (" ''" if words.endswith(" ") else "")
         code = ('source "$0"; COMP_WORDS=(' + typed + '); COMP_CWORD=$((${#COMP_WORDS[@]} - 1)); ' + function + '; printf "%s\\n" "${COMPREPLY[@]}"')
         ended = subprocess.run(["bash", "-c", code, os.path.join(folder, f"{name}.bash")], capture_output=True, text=True, cwd="/")
-        trial.expect(f"completion of {words}: {ended.stdout} {ended.stderr}", options <= set(ended.stdout.split()))
+        assert options <= set(ended.stdout.split()), f"completion of {words}: {ended.stdout} {ended.stderr}"
     with open(os.path.join(folder, "zarfepoch-draw.1"), encoding="utf-8") as opened:
         page = opened.read()
-    trial.expect("a man page", page.startswith('.TH ZARFEPOCH-DRAW 1 "" "zarfepoch ') and "\\-\\-csv" in page and "scripts/" not in page)
-
-
-def main() -> int:
-    parser = parser_of(__doc__)
-    parser.add_argument("--program", type=path_of, default=SOLVE_CLI, help="the built program (default crates/solve_cli/out/solve_cli)")
-    parser.add_argument("--times", type=number_from_one, default=1, metavar="N", help="how many puzzles of each kind (default 1)")
-    given = parser.parse_args()
-    want_program(given.program)
-    with tempfile.TemporaryDirectory(prefix="try-kinds-") as folder:
-        trial = Solving(given.program, folder)
-        all_kinds(trial, given.times)
-        for tests in (only_ones, reasons, mistyped, all_solutions, schools, plan_files, odd_plans, written, spellings, number_grids, pages):
-            tests(trial)
-    return trial.end()
-
-
-if __name__ == "__main__":
-    sys.exit(main())
+    assert page.startswith('.TH ZARFEPOCH-DRAW 1 "" "zarfepoch ') and "\\-\\-csv" in page and "scripts/" not in page, "a man page"

@@ -1,30 +1,25 @@
-#!/usr/bin/env python3
 """Tests timetables with rules: what planners say is what the program gets, and plans go back into the sheet.
 
-    python3 scripts/try_timetables.py [--program PROGRAM] [--times N]
-
-Of N small tables of each rule, drawn by lot (1 where no number is given), all covers of the problem are compared with all plans, found by trying
+Of small tables of each rule, drawn by lot, all covers of the problem are compared with all plans, found by trying
 each choice of periods, teachers and rooms: a plan is whatever plan_rules.py, which knows nothing of covers, finds no fault with. Schools of six,
-eight and nine classes, each with N further ones, are planned, with each subject at most once a day, no holes, teachers with free days and joint
+eight and nine classes are planned, with each subject at most once a day, no holes, teachers with free days and joint
 double lessons; their plans are read back as tables, and planned again with two changes. Tables of rules that can't be meant are refused with
 their line, and what counting shows to be impossible is told.
-
-It wants the program: (cd crates/solve_cli && rt run -- --version) builds it. The last line is 'N passed, M failed'. The exit status is 0 where all
-passed, 1 where something failed, 2 for a mistake on the command line or where there is no program.
 """
 from __future__ import annotations
 
+import functools
 import itertools
 import os
+import pathlib
 import random
 import subprocess
 import sys
-import tempfile
 from collections.abc import Iterable, Iterator
 from typing import Optional
 
-from built import number_from_one, parser_of, path_of, SOLVE_CLI, TOP, want_program
-from expected import Trial
+import pytest
+
 from plain_search import branching, read
 from plan_rules import choices, faults, Given, joined, read_plan, rows_of, Row, runs_in, times_of
 from planned_schools import planned, Tables
@@ -42,9 +37,8 @@ WEEK = "Mon1-3 Tue1-2"
 Plan = frozenset[Given]
 
 
-class Planning(Trial):
+class Planning:
     def __init__(self, program: str, folder: str) -> None:
-        super().__init__()
         self.program, self.folder = program, folder
 
     def path(self, name: str, text: str) -> str:
@@ -54,7 +48,7 @@ class Planning(Trial):
         return path
 
     def generate(self, *words: str) -> subprocess.CompletedProcess[str]:
-        return subprocess.run([sys.executable, os.path.join(TOP, "examples", "generate.py"), "timetable", *words], capture_output=True, text=True)
+        return subprocess.run([sys.executable, "-m", "zarfepoch.generate", "timetable", *words], capture_output=True, text=True)
 
     def plan(self, tables: Tables, before: Optional[str] = None) -> str:
         """The plan of a school as CSV, by the program; with one before it, which is to be kept. Nothing where there is none."""
@@ -63,6 +57,11 @@ class Planning(Trial):
         [timetable] = timetables(school, plan)
         found = answered(self.program, timetable, plan is not None, 120)
         return plan_of(timetable.text(), found.text) if found and found.status == 0 else ""
+
+
+@pytest.fixture
+def trial(program: str, tmp_path: pathlib.Path) -> Planning:
+    return Planning(program, str(tmp_path))
 
 
 def plan_of(text: bytes, answer: bytes) -> str:
@@ -114,6 +113,7 @@ def as_text(plan: Iterable[Given]) -> str:
     return "\n".join(lines) + "\n"
 
 
+@functools.lru_cache(maxsize=None)
 def plans_by_trying(table: str, rules: str) -> set[Plan]:
     """All plans with which plan_rules.py finds no fault."""
     ways = [ways_of(row, WEEK) for row in rows_of(table)]
@@ -156,20 +156,29 @@ def drawn(draw: random.Random, rows: list[str]) -> str:
     return text + "\n" if text else ""
 
 
-def same_plans(trial: Planning, times: int) -> None:
+@functools.lru_cache(maxsize=None)
+def small_tables(times: int) -> dict[str, list[tuple[str, str]]]:
+    """So many tables of each rule, drawn by lot: lessons and rules."""
+    draw = random.Random(1)
+    return {what: [(f"{HEAD}\n{drawn(draw, rows)}", f"who;periods;away;a_day;holes\nall;{WEEK};;;\n{drawn(draw, rules)}") for _ in range(times)]
+            for what, (rows, rules) in SMALL.items()}
+
+
+@pytest.mark.parametrize("what", SMALL)
+def test_same_plans(trial: Planning, times: int, what: str) -> None:
     """The covers are the plans: none is lost, and none is added."""
-    draw, plans = random.Random(1), 0
-    for what, (rows, rules) in SMALL.items():
-        for _ in range(times):
-            table = f"{HEAD}\n{drawn(draw, rows)}"
-            rule_table = f"who;periods;away;a_day;holes\nall;{WEEK};;;\n{drawn(draw, rules)}"
-            ended = trial.generate(trial.path("small.csv", table), "--rules", trial.path("rules.csv", rule_table))
-            wanted = plans_by_trying(table, rule_table)
-            found = plans_by_covers(ended.stdout.encode()) if ended.returncode == 0 else []
-            plans += len(wanted)
-            trial.expect(f"{what}: {table} {rule_table} {ended.stderr} {len(set(found))} plans and not {len(wanted)}", set(found) == wanted)
-            trial.expect(f"{what}: status {ended.returncode}", ended.returncode in (0, 1))
-    trial.expect(f"small tables with plans: {plans}", plans > 100 * times)
+    for table, rule_table in small_tables(times)[what]:
+        ended = trial.generate(trial.path("small.csv", table), "--rules", trial.path("rules.csv", rule_table))
+        wanted = plans_by_trying(table, rule_table)
+        found = plans_by_covers(ended.stdout.encode()) if ended.returncode == 0 else []
+        assert set(found) == wanted, f"{what}: {table} {rule_table} {ended.stderr} {len(set(found))} plans and not {len(wanted)}"
+        assert ended.returncode in (0, 1), f"{what}: status {ended.returncode}"
+
+
+def test_small_tables_have_plans(times: int) -> None:
+    """Of the tables that are compared most have plans."""
+    plans = sum(len(plans_by_trying(*tables)) for some in small_tables(times).values() for tables in some)
+    assert plans > 100 * times, f"small tables with plans: {plans}"
 
 
 # ---- schools
@@ -188,33 +197,33 @@ def with_two_changes(tables: Tables, plan: str) -> Tables:
     return Tables("\n".join(lines), f"{tables.rules}{who};;{day}1-9;;\n".replace("1-9", tables.rules.split("Mon-Fri")[1][:3]))
 
 
-def schools(trial: Planning, times: int) -> None:
+@pytest.mark.parametrize("classes, teachers, per_day", ((6, 12, 6), (8, 13, 5), (9, 13, 5)))
+def test_school(trial: Planning, times: int, classes: int, teachers: int, per_day: int) -> None:
     """Schools are planned as their rules say; and planned again after two changes, with most lessons where they were."""
-    for classes, teachers, per_day in ((6, 12, 6), (8, 13, 5), (9, 13, 5)):
-        for seed in range(1, times + 1):
-            tables = planned(seed, classes, teachers, per_day)
-            plan = trial.plan(tables)
-            found = faults(tables.lessons, tables.rules, plan) if plan else ["no plan"]
-            trial.expect(f"{classes} classes, {seed}: {found[:3]}", not found)
-            changed = with_two_changes(tables, plan)
-            again = trial.plan(changed, plan)
-            found = faults(changed.lessons, changed.rules, again) if again else ["no plan"]
-            trial.expect(f"{classes} classes with two changes, {seed}: {found[:3]}", not found)
-            same = len({given[0:1] + given[2:] for given in read_plan(plan)} & {given[0:1] + given[2:] for given in read_plan(again)})
-            trial.expect(f"{classes} classes: {same} of {len(read_plan(plan))} lessons stay", 3 * same > 2 * len(read_plan(plan)))
-            trial.expect("nothing changes where nothing has to", sorted(trial.plan(tables, plan).split("\n")) == sorted(plan.split("\n")))
+    for seed in range(1, times + 1):
+        tables = planned(seed, classes, teachers, per_day)
+        plan = trial.plan(tables)
+        found = faults(tables.lessons, tables.rules, plan) if plan else ["no plan"]
+        assert not found, f"{classes} classes, {seed}: {found[:3]}"
+        changed = with_two_changes(tables, plan)
+        again = trial.plan(changed, plan)
+        found = faults(changed.lessons, changed.rules, again) if again else ["no plan"]
+        assert not found, f"{classes} classes with two changes, {seed}: {found[:3]}"
+        same = len({given[0:1] + given[2:] for given in read_plan(plan)} & {given[0:1] + given[2:] for given in read_plan(again)})
+        assert 3 * same > 2 * len(read_plan(plan)), f"{classes} classes: {same} of {len(read_plan(plan))} lessons stay"
+        assert sorted(trial.plan(tables, plan).split("\n")) == sorted(plan.split("\n")), "nothing changes where nothing has to"
 
 
-def soon_more(trial: Planning) -> None:
+def test_soon_more(trial: Planning) -> None:
     """Where no time is left, more lessons may move after each search, up to all of them but a third."""
     tables = planned(1)
     school = read_school(trial.path("school.csv", tables.lessons), trial.path("rules.csv", tables.rules))
     [timetable] = timetables(school, kept_plan(trial.path("before.csv", trial.plan(tables)), school))
     sizes = [len(released) for released in movable(timetable, random.Random(1), 0)]
-    trial.expect(f"ever more lessons may move: {sizes}", sizes == sorted(set(sizes)) and sizes[0] == 0 and 3 * sizes[-1] >= 2 * len(timetable.lessons))
+    assert sizes == sorted(set(sizes)) and sizes[0] == 0 and 3 * sizes[-1] >= 2 * len(timetable.lessons), f"ever more lessons may move: {sizes}"
 
 
-def wrong_plans(trial: Planning) -> None:
+def test_wrong_plans(trial: Planning) -> None:
     """plan_rules.py finds what is wrong with a plan."""
     tables = planned(1)
     plan = trial.plan(tables)
@@ -226,15 +235,15 @@ def wrong_plans(trial: Planning) -> None:
                           ("another room", [line.replace(double, double.replace("hall", "gym")) for line in lines]),
                           ("half a double lesson", [line.replace(double, double.replace(double.split(";")[4], double.split(";")[4].split()[0])) for line in lines]),
                           ("another period", [line.replace(single, single.replace(single.split(";")[4], "Fri6" if "Fri6" not in single else "Mon1")) for line in lines])):
-        trial.expect(f"{what} is found", faults(tables.lessons, tables.rules, "\n".join(changed)))
+        assert faults(tables.lessons, tables.rules, "\n".join(changed)), f"{what} is found"
     table = f"{HEAD}\na;t;5a;;Mon1-5;3;;;;;\n"
     text = "lesson;teacher;class;rooms;periods\n" + "".join(f"a;t;5a;-;Mon{number}\n" for number in (1, 2, 5))
     for what, rules, row in (("holes", "t;;;;1", ""), ("periods a day", "t;;;2;", ""), ("an hour away", "t;;Mon5;;", ""), ("once a day", "lessons;;;2;", "")):
         rule_table = f"who;periods;away;a_day;holes\n{rules}\n"
-        trial.expect(f"{what} are found", len(faults(table, rule_table, text)) == 1)
+        assert len(faults(table, rule_table, text)) == 1, f"{what} are found"
     for row, count in (("b;t;5a;;Mon1-5;1;;;;;a", 0), ("b;u;5a;;Mon1-5;1;;;;;a", 1), ("b;t;5a;;Mon1-5;1;;;;Mon4;", 1)):
         found = faults(f"{table}{row}\n", "", text + f"b;{row[2]};5a;-;Mon{4 if row[2] == 'u' else 3}\n")
-        trial.expect(f"{row}: {found}", len(found) == count)
+        assert len(found) == count, f"{row}: {found}"
 
 
 # ---- what can't be meant, and what can't be
@@ -255,19 +264,27 @@ WRONG_ROWS = (
     ("a range from nowhere", 3, "a;ann;5a;;-1-3;1;;;;;"), ("a week's range with periods", 3, "a;ann;5a;;Mon1-Fri6;1;;;;;"))
 
 
-def refusals(trial: Planning) -> None:
-    """Tables that can't be meant, with their lines, and what can't be."""
-    table = f"{HEAD}\na;ann;5a;r;Mon-Tue1-4;3;;;;;\nb;bob;5a;;Mon-Tue1-4;1;;;;;\n"
-    for what, status, line, rows in WRONG_RULES:
-        ended = trial.generate(trial.path("table.csv", table), "--rules", trial.path("rules.csv", f"who;periods;away;a_day;holes\n{rows}\n"))
-        trial.expect(f"{what}: {ended.returncode} {ended.stderr}", ended.returncode == status and f"line {line}" in ended.stderr.replace("lines", "line"))
-    for what, status, row in WRONG_ROWS:
-        ended = trial.generate(trial.path("table.csv", f"{HEAD}\nc;bob;5b;;Mon1-2 Tue1-2;2;;;;;\n{row}\n"))
-        trial.expect(f"{what}: {ended.returncode} {ended.stderr}", ended.returncode == status and "line 3" in ended.stderr and "Traceback" not in ended.stderr)
+TWO_LESSONS = f"{HEAD}\na;ann;5a;r;Mon-Tue1-4;3;;;;;\nb;bob;5a;;Mon-Tue1-4;1;;;;;\n"
+
+
+@pytest.mark.parametrize("what, status, line, rows", WRONG_RULES, ids=[what for what, *_ in WRONG_RULES])
+def test_wrong_rules(trial: Planning, what: str, status: int, line: str, rows: str) -> None:
+    """Rules that can't be meant, with their lines, and what can't be."""
+    ended = trial.generate(trial.path("table.csv", TWO_LESSONS), "--rules", trial.path("rules.csv", f"who;periods;away;a_day;holes\n{rows}\n"))
+    assert ended.returncode == status and f"line {line}" in ended.stderr.replace("lines", "line"), f"{what}: {ended.returncode} {ended.stderr}"
+
+
+@pytest.mark.parametrize("what, status, row", WRONG_ROWS, ids=[what for what, *_ in WRONG_ROWS])
+def test_wrong_rows(trial: Planning, what: str, status: int, row: str) -> None:
+    ended = trial.generate(trial.path("table.csv", f"{HEAD}\nc;bob;5b;;Mon1-2 Tue1-2;2;;;;;\n{row}\n"))
+    assert ended.returncode == status and "line 3" in ended.stderr and "Traceback" not in ended.stderr, f"{what}: {ended.returncode} {ended.stderr}"
+
+
+def test_lengths_and_weeks(trial: Planning) -> None:
     ended = trial.generate(trial.path("table.csv", f"{HEAD}\nart;ann;5a;;Mon1-3;2;;;;;\nkunst;bob;5a;;Mon1-3;1;2;;;;\n"))
-    trial.expect(f"2 x 2: {ended.stderr}", "art 2, kunst" in ended.stderr)
+    assert "art 2, kunst" in ended.stderr, f"2 x 2: {ended.stderr}"
     ended = trial.generate(trial.path("table.csv", "lesson,teacher,class\na,ann,5a\n"))
-    trial.expect(f"no week: {ended.stderr}", ended.returncode == 3 and "nobody knows the week" in ended.stderr)
+    assert ended.returncode == 3 and "nobody knows the week" in ended.stderr, f"no week: {ended.stderr}"
 
 
 # tables that have no plan for a reason beyond counting, rules, and what has to be told of them
@@ -288,17 +305,17 @@ IMPOSSIBLE = (
     ("a teacher whose days are full", "a;ann;5a;;Mon-Tue1-3;2;2;;;;\nb;ann;5b;;Mon-Tue1-3;1;;;;;\nc;bob;5a;;Mon1;1;;;;;\n", "ann;;;2;\n", "line 2, 3: there is no timetable: ann has 5"))
 
 
-def impossible(trial: Planning) -> None:
+@pytest.mark.parametrize("what, rows, rules, told", IMPOSSIBLE, ids=[what for what, *_ in IMPOSSIBLE])
+def test_impossible(trial: Planning, what: str, rows: str, rules: str, told: str) -> None:
     """Of what can't be the rows that can't be together are told, and whose rules matter."""
-    for what, rows, rules, told in IMPOSSIBLE:
-        table, ruled = trial.path("none.csv", f"{HEAD}\n{rows}"), trial.path("none-rules.csv", f"who;periods;away;a_day;holes\nlessons;;;9;\n{rules}")
-        words = [sys.executable, os.path.join(TOP, "scripts", "zarfepoch.py"), "timetable", table, "--rules", ruled]
-        ended = subprocess.run(words, capture_output=True, text=True, env={**os.environ, "ZARFEPOCH": trial.program})
-        said = ended.stdout + ended.stderr
-        trial.expect(f"{what}: {ended.returncode} {said}", ended.returncode == 1 and told.replace("line 2, 3", "lines 2, 3") in said)
+    table, ruled = trial.path("none.csv", f"{HEAD}\n{rows}"), trial.path("none-rules.csv", f"who;periods;away;a_day;holes\nlessons;;;9;\n{rules}")
+    words = [sys.executable, "-m", "zarfepoch", "timetable", table, "--rules", ruled]
+    ended = subprocess.run(words, capture_output=True, text=True, env={**os.environ, "ZARFEPOCH": trial.program})
+    said = ended.stdout + ended.stderr
+    assert ended.returncode == 1 and told.replace("line 2, 3", "lines 2, 3") in said, f"{what}: {ended.returncode} {said}"
 
 
-def parts(trial: Planning) -> None:
+def test_parts(trial: Planning) -> None:
     """A school that is too large for one file is parted where classes share nobody and no room, and no further."""
     rows = [f"l{k};{one}t{k % 9};{one}{k // 9};;;3;;1;;;" for one in "ab" for k in range(54)]
     table = trial.path("two.csv", "\n".join([HEAD, *rows]) + "\n")
@@ -306,25 +323,6 @@ def parts(trial: Planning) -> None:
     out = os.path.join(trial.folder, "two.dlx")
     ended = trial.generate(table, "--rules", rules, "--out", out)
     made = [name for name in os.listdir(trial.folder) if name.startswith("two") and name.endswith(".dlx")]
-    trial.expect(f"two files: {ended.stderr} {made}", sorted(made) == ["two-1.dlx", "two-2.dlx"] and "parted into 2 files" in ended.stderr)
+    assert sorted(made) == ["two-1.dlx", "two-2.dlx"] and "parted into 2 files" in ended.stderr, f"two files: {ended.stderr} {made}"
     ended = trial.generate(table, "--rules", rules)
-    trial.expect(f"two files want a name: {ended.stderr}", ended.returncode == 3 and "--out FILE says where" in ended.stderr)
-
-
-def main() -> int:
-    parser = parser_of(__doc__)
-    parser.add_argument("--program", type=path_of, default=SOLVE_CLI, help="the built program (default crates/solve_cli/out/solve_cli)")
-    parser.add_argument("--times", type=number_from_one, default=1, metavar="N", help="how many tables of each rule, and schools (default 1)")
-    given = parser.parse_args()
-    want_program(given.program)
-    with tempfile.TemporaryDirectory(prefix="try-timetables-") as folder:
-        trial = Planning(given.program, folder)
-        same_plans(trial, given.times)
-        schools(trial, given.times)
-        for tests in (soon_more, wrong_plans, refusals, impossible, parts):
-            tests(trial)
-    return trial.end()
-
-
-if __name__ == "__main__":
-    sys.exit(main())
+    assert ended.returncode == 3 and "--out FILE says where" in ended.stderr, f"two files want a name: {ended.stderr}"
