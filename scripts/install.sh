@@ -87,8 +87,8 @@ commit() {
 pages=$(mktemp -d)
 trap 'rm -rf "$pages"' EXIT
 trap 'exit 1' HUP INT TERM
-python3 "$top/scripts/help_pages.py" "$pages"
-python3 "$top/scripts/command_pages.py" "$pages"
+python3 "$top/dev/help_pages.py" "$pages"
+python3 "$top/dev/command_pages.py" "$pages"
 {
     "$program" --version
     echo "commit $(commit)"

@@ -1,5 +1,5 @@
 #!/bin/bash
-# What a merge has to pass: the gate, then the package's tests (python/tests), each scripts/try_*.py in a short form, mypy, check_pages.py, and
+# What a merge has to pass: the gate, then the package's tests (python/tests), each trials/try_*.py in a short form, mypy, check_pages.py, and
 # draw_layers.py --check.
 #
 #     scripts/test.sh [--trials]
@@ -86,8 +86,8 @@ if [ $# -eq 0 ] && ! rt ci 2>&1 | tee "$log"; then
 fi
 begun=$SECONDS
 # (those that take longest first, so that none of them is left over at the end)
-long="scripts/try_program.py $(printf 'python/tests/test_%s.py ' package generate kinds draw timetables)"
-for path in $long python/tests/test_*.py scripts/try_*.py; do
+long="trials/try_program.py $(printf 'python/tests/test_%s.py ' package generate kinds draw timetables)"
+for path in $long python/tests/test_*.py trials/try_*.py; do
     name=$(basename "$path")
     [ -e "$room/$name.said" ] && continue
     : > "$room/$name.said"
@@ -96,8 +96,8 @@ for path in $long python/tests/test_*.py scripts/try_*.py; do
     begin "$path" $(short_form "$name")
 done
 begin mypy
-begin scripts/check_pages.py
-begin scripts/draw_layers.py --check
+begin dev/check_pages.py
+begin dev/draw_layers.py --check
 wait
 echo "test.sh: the trials took $((SECONDS - begun)) s"
 failed=$(tr -d '\n' < "$room/failed")

@@ -1,7 +1,7 @@
 #!/usr/bin/env python3
 """Puts the bugs of the folder bugs into the code, and says of each whether the check refuses it.
 
-    python3 scripts/try_bugs.py [--short] [CRATE | CRATE/BUG ..]
+    python3 trials/try_bugs.py [--short] [CRATE | CRATE/BUG ..]
 
 Without words it tries every bugs/CRATE/BUG.edit, else those of the crates or the single ones that are named. A bug is
 tried as the gate tries those of must-fail/: in a copy of the repository, with what earlier checks have kept of the
@@ -9,8 +9,8 @@ crates below, so that only the bug's own crate is proved again, once for all of 
 
     refused: LINE       a contract, an invariant or a call's requirement is broken, and at which line
     by its shape: LINE  refused only since a proof names what the bug took away, which says little of the contract
-    by a test: TEST     not tried, unless it is named: no contract refuses it, and scripts/try_found.py runs the test that finds it
-    by refused memory: TESTS  not tried, unless it is named: scripts/try_found.py --memory refuses these tests memory, which finds it
+    by a test: TEST     not tried, unless it is named: no contract refuses it, and trials/try_found.py runs the test that finds it
+    by refused memory: TESTS  not tried, unless it is named: trials/try_found.py --memory refuses these tests memory, which finds it
     by a bench: BENCH   not tried, unless it is named: it costs time or memory alone, which the bench's figures show
     PROVED              the crate is proved with the bug in it: a hole in a contract
     no longer applies   its text isn't exactly once in the file that it names, or can't be read then

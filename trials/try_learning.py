@@ -1,7 +1,7 @@
 #!/usr/bin/env python3
 """Compares what learners find with what the search in the defined order finds, on random problems.
 
-    python3 scripts/try_learning.py [--problems N] [--seed N]
+    python3 trials/try_learning.py [--problems N] [--seed N]
 
 It runs the program learn_trials over N random problems (default 100000), in as many processes as there are processors. A learner has to
 find a cover where there is one, and else that there is none.

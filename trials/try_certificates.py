@@ -1,7 +1,7 @@
 #!/usr/bin/env python3
 """Writes certificates of random problems without a cover, and has them checked by the program and by check_certificate.py.
 
-    python3 scripts/try_certificates.py [COUNT]
+    python3 trials/try_certificates.py [COUNT]
 
 A plain search in this script writes them: by cases, with kept cases, jumps, dropped cases and reasons where these are found, and by clauses, one for
 each case, some of which are forgotten. Two more are written by the program, by `alone` and by `answer`. Of so many random problems without a cover

@@ -1,7 +1,7 @@
 #!/usr/bin/env python3
 """Runs the program workbench with words that it knows and that it doesn't, and compares what it prints.
 
-    python3 scripts/try_workbench.py [--program PATH]
+    python3 trials/try_workbench.py [--program PATH]
 
 Without words, with unknown ones, too few or too many, it prints how it is called, with status 2. A cycle of cores prints nothing. What the rest
 prints is compared by the gate, by other trials and by the benches.

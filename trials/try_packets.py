@@ -1,7 +1,7 @@
 #!/usr/bin/env python3
 """Offers packets to all sites at each moment of the worked runs, by a plain model of the protocol, and compares with a test's table.
 
-    python3 scripts/try_packets.py [--print]
+    python3 trials/try_packets.py [--print]
 
 The model keeps to docs/PROTOCOL.md and shares no code with the crates. It plays the five worked runs of two nodes, whose last
 packets and published answer it tests. At each moment each packet of OFFERED is delivered to the registry and to both nodes, each time

@@ -1,7 +1,7 @@
 #!/usr/bin/env python3
 """Simulates a search of every example.
 
-    python3 scripts/try_simulate.py [SEEDS]
+    python3 trials/try_simulate.py [SEEDS]
 
 Each file of examples/ is searched by simulated worlds of four nodes, for each seed (20 where no number is given) with searches
 of 1, 10 and 1,000 visits, without restarts and with five. Every answer is given to `check`, which has to call it right. A table

@@ -1,7 +1,7 @@
 #!/usr/bin/env python3
 """Compares searches that keep states which have no cover with plain ones, on random problems.
 
-    python3 scripts/try_states.py [--problems N] [--seed N]
+    python3 trials/try_states.py [--problems N] [--seed N]
 
 It runs `workbench states` over N random problems (default 50000), in as many processes as there are processors. Outcome, first
 cover and visits of each prefix that is searched have to be the same with states kept and without; the fuels are the visits, one

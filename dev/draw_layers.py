@@ -1,7 +1,7 @@
 #!/usr/bin/env python3
 """Draws the layers of crates.txt: docs/layers.svg, the picture on docs/TOUR.md.
 
-    python3 scripts/draw_layers.py [--text | --check]
+    python3 dev/draw_layers.py [--text | --check]
 
 The picture has a band for each layer, the lowest at the bottom, with a box for each crate. A line leads down to what a crate uses; where
 another crate that it uses is built on that one, there is none. Tests and tools are beside the layer of the highest crate that they use.
@@ -18,10 +18,11 @@ import re
 import sys
 from collections.abc import Iterator
 
-from built import TOP, parser_of, stop
-from crate_layers import Crates, Group, read_crates, text_of
-from layer_layout import BOX, Layout, Node
-from zarfepoch.svg_paper import FAINT, FILLS, INK, Paper, Point, number
+sys.path.insert(0, os.path.join(os.path.dirname(os.path.abspath(__file__)), "..", "trials"))
+from built import TOP, parser_of, stop  # noqa: E402
+from crate_layers import Crates, Group, read_crates, text_of  # noqa: E402
+from layer_layout import BOX, Layout, Node  # noqa: E402
+from zarfepoch.svg_paper import FAINT, FILLS, INK, Paper, Point, number  # noqa: E402
 
 PICTURE, TOUR = os.path.join(TOP, "docs", "layers.svg"), os.path.join(TOP, "docs", "TOUR.md")
 ROW, HIGH, GAP, PAD = 54.0, 30.0, 10.0, 9.0
@@ -159,7 +160,7 @@ def mistakes(crates: Crates) -> Iterator[str]:
     wrong = list(crates.mistakes())
     yield from wrong
     if not wrong and text_in(PICTURE) != Picture(crates).svg():
-        yield "docs/layers.svg isn't as drawn: python3 scripts/draw_layers.py draws it"
+        yield "docs/layers.svg isn't as drawn: python3 dev/draw_layers.py draws it"
     named = set(re.findall(r"\w+", text_in(TOUR)))
     yield from (f"docs/TOUR.md doesn't name {crate}" for crate in crates.uses if crate not in named)
 

@@ -1,7 +1,7 @@
 #!/usr/bin/env python3
 """A plain search for exact covers, apart from the crates, whose answers the tests compare with.
 
-    python3 scripts/plain_search.py FILE
+    python3 trials/plain_search.py FILE
 
 prints the outcome, the visits and the first cover of the empty prefix, by numbers of options from 0. It filters all options
 at each visit, as the definition says, and keeps no links. Two options clash where both name an item, and it is primary or they

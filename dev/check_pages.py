@@ -1,7 +1,7 @@
 #!/usr/bin/env python3
 """Checks the pages: the names in them, their links, words and tables of options.
 
-    python3 scripts/check_pages.py [PAGE ..]
+    python3 dev/check_pages.py [PAGE ..]
 
 Without a PAGE it checks every page (*.md) of the repository. Names are read in backquotes, outside of blocks of code:
 
@@ -10,7 +10,7 @@ Without a PAGE it checks every page (*.md) of the repository. Names are read in 
 - on the page of a crate, a small word in brackets is the name of a clause there;
 - a path is that of a file or folder, from the top or from some folder on; a file of definitions may lack its ending.
 
-Words of capitals alone are places that a reader fills in. The code is what is in crates, scripts, bench, examples and python, without pages,
+Words of capitals alone are places that a reader fills in. The code is what is in crates, scripts, trials, dev, bench, examples and python, without pages,
 bugs and the comments of Rattle; names of files count too.
 
 The target of each link exists, and its heading. Outside of code no page uses a word of REFUSED. No comment of Rattle uses a word of
@@ -29,9 +29,10 @@ import re
 import sys
 from collections.abc import Iterator
 
-from built import TOP, parser_of, stop
+sys.path.insert(0, os.path.join(os.path.dirname(os.path.abspath(__file__)), "..", "trials"))
+from built import TOP, parser_of, stop  # noqa: E402
 
-CODE = ("crates", "scripts", "bench", "examples", "python")
+CODE = ("crates", "scripts", "trials", "dev", "bench", "examples", "python")
 PASSED = {".git", "out", "__pycache__", "build"}
 ENDINGS = (".md", ".rt", ".antt", ".py", ".dlx", ".edit", ".csv", ".svg", ".c", ".txt")
 # of the system or the language, so not in the code

@@ -1,7 +1,7 @@
 #!/usr/bin/env python3
 """Solves puzzles that Simon Tatham's programs make, and compares each answer with theirs.
 
-    python3 scripts/peer_puzzles.py [--program PROGRAM] [--times N] [KIND ..]
+    python3 trials/peer_puzzles.py [--program PROGRAM] [--times N] [KIND ..]
 
 Of dominosa, tents, shikaku, futoshiki, kenken and binairo, or of the kinds that are named, N puzzles of some sizes (10 where no number is given) are made by
 Debian's package sgt-puzzles, whose puzzles have one solution each and come with it. They are written as people write them; the answer of zarfepoch has

@@ -1,7 +1,7 @@
 #!/usr/bin/env python3
 """Audits the books of real runs, as they are and with one entry changed at random, and compares the audit with one of its own.
 
-    python3 scripts/try_audit.py [--changes N] [--runs N] [--seed N] [--program PATH] [FILE ..]
+    python3 trials/try_audit.py [--changes N] [--runs N] [--seed N] [--program PATH] [FILE ..]
 
 Of each file, so many runs are made by `workbench audits`, which prints the books of all sites, and so many times the book of one site
 in which one entry was changed: an event left out, repeated, or put behind the next one, a packet with another bit, or the packet of

@@ -1,7 +1,7 @@
 #!/usr/bin/env python3
 """Runs the program `learn` on random problems with secondary items and colours, and compares it with the plain search of `plain_search.py`.
 
-    python3 scripts/try_any_cover.py [--problems N] [--seed N]
+    python3 trials/try_any_cover.py [--problems N] [--seed N]
 
 Of N problems (default 2000) a cover has to be found where the plain search finds one, and else that there is none. Each cover is counted here. The
 problems are drawn so that about half have a cover, and each has a seed of its own for `learn`. It runs as many at once as there are processors.

@@ -1,7 +1,7 @@
 #!/usr/bin/env python3
 """Refuses each growth of memory that a call asks for, another one in each run, and says what came of it.
 
-    python3 scripts/try_memory.py [--list | --short] [CRATE ..]
+    python3 trials/try_memory.py [--list | --short] [CRATE ..]
 
 The tests whose names begin with `refused_memory` mark where a call begins and ends. `refuse_growth.c`, which is built here and loaded
 before the C library, counts the growths between these marks and refuses one. Then the call has to answer `Memory`, with
@@ -91,7 +91,7 @@ def tests_of(crate: str) -> str:
 def build(folder: str) -> str:
     """Builds what is loaded before the C library."""
     library = os.path.join(folder, "refuse_growth.so")
-    source = os.path.join(TOP, "scripts", "refuse_growth.c")
+    source = os.path.join(TOP, "trials", "refuse_growth.c")
     subprocess.run(["cc", "-O2", "-shared", "-fPIC", "-o", library, source, "-ldl", "-lpthread"], check=True)
     return library
 

@@ -1,7 +1,7 @@
 #!/usr/bin/env python3
 """Runs the program `alone` on random problems with colours, and compares it with the plain search of `plain_search.py`.
 
-    python3 scripts/try_search.py [COUNT]
+    python3 trials/try_search.py [COUNT]
 
 For each of so many problems (default 600) the answer has to be the plain search's first cover, or that there is none. With as much
 fuel as the plain search has visits it has to be the same, and with one less `no answer`. It wants the program:

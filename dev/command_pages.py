@@ -1,7 +1,7 @@
 #!/usr/bin/env python3
 """Writes man pages and completions for bash and zsh of the commands zarfepoch and zarfepoch-*, made from their own help.
 
-    scripts/command_pages.py FOLDER
+    dev/command_pages.py FOLDER
 
 FOLDER gets, for each command NAME, `NAME.1`, `NAME.bash` and `_NAME`. Each option, argument and sentence in them comes from what the command prints for
 `--help`, so they can't differ from it. scripts/install.sh puts them where they belong.
@@ -16,10 +16,11 @@ import subprocess
 import sys
 from dataclasses import dataclass, field
 
-from built import TOP, parser_of, stop
-import zarfepoch
-from zarfepoch.commands import COMMANDS
-from zarfepoch.generate import KINDS
+sys.path.insert(0, os.path.join(os.path.dirname(os.path.abspath(__file__)), "..", "trials"))
+from built import TOP, parser_of, stop  # noqa: E402
+import zarfepoch  # noqa: E402
+from zarfepoch.commands import COMMANDS  # noqa: E402
+from zarfepoch.generate import KINDS  # noqa: E402
 
 # the words that may come first behind a command
 KINDS_OF = {"zarfepoch": KINDS, "zarfepoch-generate": KINDS}

@@ -1,7 +1,7 @@
 #!/usr/bin/env python3
 """Writes a man page and completions for bash and zsh, made from the program's own help.
 
-    scripts/help_pages.py FOLDER
+    dev/help_pages.py FOLDER
 
 FOLDER gets `solve_cli.1`, `solve_cli.bash` and `_solve_cli`. Each option, argument and sentence in them comes from what the
 built program prints for `--help`, so they can't differ from it. scripts/install.sh puts them where they belong.
@@ -14,9 +14,11 @@ from __future__ import annotations
 import os
 import re
 import subprocess
+import sys
 from dataclasses import dataclass, field
 
-from built import SOLVE_CLI, parser_of, stop, want_program
+sys.path.insert(0, os.path.join(os.path.dirname(os.path.abspath(__file__)), "..", "trials"))
+from built import SOLVE_CLI, parser_of, stop, want_program  # noqa: E402
 
 NAME = "solve_cli"
 # what the help doesn't say of the statuses that all commands have in common, in the order of their numbers

@@ -1,7 +1,7 @@
 #!/usr/bin/env python3
 """Attacks a running `solve` from sockets that are none of its own, and says whether its answers stay right: a run hears only what carries its key.
 
-    python3 scripts/try_strangers.py [--times N] [--limit SECONDS] [--length SECONDS] [--program PATH] [--problem FILE] [--only NAME] [--audit]
+    python3 trials/try_strangers.py [--times N] [--limit SECONDS] [--length SECONDS] [--program PATH] [--problem FILE] [--only NAME] [--audit]
 
 The ports of a run are in /proc/net/udp, which every process of the machine may read. To each of them each attack sends its packets, well
 formed and with the names that sites of a run have, for a second from the run's begin, or until its end: that a node asks for work and found

@@ -1,7 +1,7 @@
 #!/usr/bin/env python3
 """Runs `solve` on two small problems and on every example, or on the files that are named.
 
-    python3 scripts/try_solve.py [--times N] [--nodes N] [--workers N] [--fuel N] [--limit SECONDS] [--audit] [FILE ..]
+    python3 trials/try_solve.py [--times N] [--nodes N] [--workers N] [--fuel N] [--limit SECONDS] [--audit] [FILE ..]
 
 Each problem is solved so many times by nodes with threads of their own. Every answer is given to `check`, which has to call it
 right, and of the two small problems the answer's text is known. With no turns at all there has to be no answer. A table tells,

@@ -1,7 +1,7 @@
 #!/usr/bin/env python3
 """Runs `solve`, `answer` and `learn` where threads can't be started or memory runs out, and shows how each run ended.
 
-    python3 scripts/try_shortage.py [--short] [--growths N] [--limit SECONDS]
+    python3 trials/try_shortage.py [--short] [--growths N] [--limit SECONDS]
 
 The small problem with one cover is solved. First, with the usual four nodes of two workers, so many threads can be started as the table
 says, from none to all. Then one growth of memory is refused: with one node of one worker each growth of a run in turn, and with eight
@@ -78,7 +78,7 @@ class Trial:
         self.count = os.path.join(folder, "growths")
         self.barren = os.path.join(folder, "barren.dlx")
         self.out = os.path.join(folder, "certificate")
-        subprocess.run(["cc", "-O2", "-shared", "-fPIC", "-o", self.library, os.path.join(TOP, "scripts", "refuse_growth.c"), "-ldl", "-lpthread"],
+        subprocess.run(["cc", "-O2", "-shared", "-fPIC", "-o", self.library, os.path.join(TOP, "trials", "refuse_growth.c"), "-ldl", "-lpthread"],
                        check=True)
         for path, text in (self.file, LETTERS), (self.barren, BARREN):
             with open(path, "w", encoding="ascii") as file:

@@ -1,7 +1,7 @@
 #!/usr/bin/env python3
 """Puts the bugs into the code that a test finds and no contract refuses, and says of each whether that test fails.
 
-    python3 scripts/try_found.py [--short | --memory] [--at-once N] [CRATE/BUG ..]
+    python3 trials/try_found.py [--short | --memory] [--at-once N] [CRATE/BUG ..]
 
 The first lines of a test's file say "Of the bugs of `CRATE` that are kept outside the gate, `TEST` finds `BUG`". Without words all
 of these bugs are tried, each in a copy of the repository and without proofs: it takes two minutes each. Of each bug one line says
@@ -102,7 +102,7 @@ def tried_without_memory(claim: Claim) -> str:
         built = subprocess.run(["rt", "test"], cwd=os.path.join(top, "crates", tests), capture_output=True)
         if built.returncode:
             return UNTRIED
-        ended = subprocess.run([sys.executable, os.path.join(top, "scripts", "try_memory.py"), tests], capture_output=True)
+        ended = subprocess.run([sys.executable, os.path.join(top, "trials", "try_memory.py"), tests], capture_output=True)
     return {0: MISSED, 1: FOUND}.get(ended.returncode, UNTRIED)
 
 

@@ -1,7 +1,7 @@
 #!/usr/bin/env python3
 """Reads changed bytes of packets, problems and answers by readers of its own, and compares what comes of them with the tests' tables.
 
-    python3 scripts/try_bytes.py [--print]
+    python3 trials/try_bytes.py [--print]
 
 Of each text below it takes each beginning, the text with each byte behind it, and the text with each other byte at each place, and counts
 how many are read, and how many have each fault. Of what is read it adds up some numbers, and of faults the lines. `cover_files.py` reads

@@ -1,7 +1,7 @@
 #!/usr/bin/env python3
 """Runs the built program on the examples, on bad input, on failing outputs, installed and from Python, and compares what it writes.
 
-    python3 scripts/try_program.py [PROGRAM]
+    python3 trials/try_program.py [PROGRAM]
 
 It wants cc and the program, which is crates/solve_cli/out/solve_cli where none is named: (cd crates/solve_cli && rt run -- --version) builds that.
 Each cover of an example is given back to `check`, and counted here once more. Of some runs of `solve`, `record_sends.c`, which is built here and
@@ -460,7 +460,7 @@ def first_asked(sent: list[Sent]) -> dict[int, int]:
 
 def packets_of_solve(folder: str) -> None:
     """The seed draws whom the nodes ask, and node 1 restarts as often as it should: by the packets that are sent."""
-    source, library = os.path.join(TOP, "scripts", "record_sends.c"), os.path.join(folder, "record_sends.so")
+    source, library = os.path.join(TOP, "trials", "record_sends.c"), os.path.join(folder, "record_sends.so")
     subprocess.run(["cc", "-O2", "-shared", "-fPIC", "-o", library, source], check=True)
     asked = [first_asked(sends_of(folder, lambda sent: len(first_asked(sent)) == 16, "--nodes", "16", "--seed", seed)) for seed in "112"]
     expect(f"--seed: {asked}", len(asked[0]) == len(asked[2]) == 16 and asked[0] == asked[1] != asked[2])
@@ -622,7 +622,7 @@ def many_visits(folder: str) -> None:
 
 def helps() -> None:
     """Each script that can be run writes its help, so that all it imports is there."""
-    paths = [path for folder in ("scripts", "examples", "bench") for path in sorted(glob.glob(os.path.join(TOP, folder, "*.py")))]
+    paths = [path for folder in ("trials", "dev", "scripts", "examples", "bench") for path in sorted(glob.glob(os.path.join(TOP, folder, "*.py")))]
     for path in filter(lambda path: os.access(path, os.X_OK), paths):
         ended = subprocess.run([sys.executable, path, "--help"], capture_output=True, text=True)
         expect(f"the help of {path}: {ended.stderr}", ended.returncode == 0 and ended.stdout.startswith("usage: "))
