@@ -215,7 +215,7 @@ def main() -> int:
                 path = os.path.join(folder, "puzzle.txt")
                 with open(path, "w", encoding="utf-8") as opened:
                     opened.write(made.text)
-                words = [sys.executable, os.path.join(TOP, "scripts", "zarfepoch.py"), kind, path]
+                words = [sys.executable, os.path.join(TOP, "scripts", "zarfepoch"), kind, path]
                 ended = subprocess.run(words, capture_output=True, text=True, env=environment, timeout=600)
                 lines = [line.rstrip() for line in ended.stdout.splitlines()]
                 trial.expect(f"{kind} {parameters}:\n{made.text}{ended.stdout}{ended.stderr}{made.solution}",

@@ -99,7 +99,7 @@ def main() -> None:
     try:
         names, primary, options, ignored = read(text)
     except (IndexError, ValueError):
-        stop(f"{path} is refused; scripts/explain.py {path} explains it")
+        stop(f"{path} is refused; scripts/zarfepoch explain {path} explains it")
     first, visits = search(primary, options, [])
     print("cover" if first is not None else "none", "visits", visits, "first", first, "ignored", ignored)
 

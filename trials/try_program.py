@@ -29,6 +29,8 @@ from expected import Trial
 import zarfepoch
 
 PROGRAM = SOLVE_CLI
+# what runs the commands of the package from a clone
+LAUNCHER = os.path.join(TOP, "scripts", "zarfepoch")
 # a word of a command line
 Word = Union[str, bytes]
 LINE = re.compile(r"\d+ s: \d+ visits, +\d+\.\d{4} % of the tree, \d+ jobs? out, fullest book \d+ %(?:, some \d+ (?:s|min|h|days) left)?")
@@ -242,7 +244,6 @@ def piped_certificates(folder: str) -> None:
 
 def certified(folder: str, name: str, words: tuple[str, ...], expected: str) -> None:
     """A certificate of an example is written by these words, if it has no cover."""
-    script = os.path.join(TOP, "scripts", "check_certificate.py")
     file, path = os.path.join(TOP, "examples", name), os.path.join(folder, name + ".certificate")
     command, *options = words
     out, errors, status = run(command, file, *options, "--certificate", path)
@@ -252,7 +253,7 @@ def certified(folder: str, name: str, words: tuple[str, ...], expected: str) -> 
         return
     expect(said + "certified", (out, errors, status) == (b"none\n", f"certificate right: {path}\n".encode(), 1))
     expect(said + "certificate checked", run("check", file, path) == (b"right\n", b"", 0))
-    ran = subprocess.run([sys.executable, script, file, path], capture_output=True)
+    ran = subprocess.run([sys.executable, LAUNCHER, "check-certificate", file, path], capture_output=True)
     expect(said + "certificate checked by the script", (ran.stdout, ran.returncode) == (b"right\n", 0))
     lines = content(path).splitlines(keepends=True)
     # (cases that are kept at the end are for nothing more)
@@ -564,17 +565,16 @@ def installing_again(folder: str) -> None:
 
 
 def by_json(text: bytes, *words: str, **how: Any) -> tuple[bytes, int]:
-    """What zarfepoch.py prints of a problem in JSON, and its status."""
-    script = os.path.join(TOP, "scripts", "zarfepoch.py")
-    ended = subprocess.run([sys.executable, script, "--json", "-", *words], input=text, capture_output=True, **how)
+    """What zarfepoch prints of a problem in JSON, and its status."""
+    ended = subprocess.run([sys.executable, LAUNCHER, "--json", "-", *words], input=text, capture_output=True, **how)
     expect(f"JSON {text!r} {words}: {ended.stderr!r}", b"Traceback" not in ended.stderr and bool(ended.stderr) == (ended.returncode > 1))
     return ended.stdout, ended.returncode
 
 
 def from_python() -> None:
-    """The examples of zarfepoch.py, and problems in JSON."""
+    """The examples of the package, and problems in JSON."""
     found = doctest.testmod(zarfepoch)
-    expect("the examples of zarfepoch.py", found.attempted and not found.failed)
+    expect("the examples of the package", found.attempted and not found.failed)
     for text, answer, status in ((b'{"options": [["a", ["x", "red"]], ["x"]], "primary": ["a"], "secondary": ["x"]}', b"[0]\n", 0),
                                  (b'{"options": [["a"]], "primary": ["a", "b"]}', b"null\n", 1), (b"[]", b"", 3), (b"{", b"", 3),
                                  (b'\xef\xbb\xbf{"options": [["\xc3\xa9"]], "primary": ["\xc3\xa9"]}', b"[0]\n", 0), (b'{"a\xff": 1}', b"", 3),
@@ -621,29 +621,30 @@ def many_visits(folder: str) -> None:
 
 
 def helps() -> None:
-    """Each script that can be run writes its help, so that all it imports is there."""
-    paths = [path for folder in ("trials", "dev", "scripts", "examples", "bench") for path in sorted(glob.glob(os.path.join(TOP, folder, "*.py")))]
-    for path in filter(lambda path: os.access(path, os.X_OK), paths):
-        ended = subprocess.run([sys.executable, path, "--help"], capture_output=True, text=True)
-        expect(f"the help of {path}: {ended.stderr}", ended.returncode == 0 and ended.stdout.startswith("usage: "))
+    """Each script that can be run writes its help, so that all it imports is there, and so do the package's commands, by the launcher of a clone."""
+    paths = [path for folder in ("trials", "dev", "bench") for path in sorted(glob.glob(os.path.join(TOP, folder, "*.py")))]
+    tools = [[LAUNCHER, *name.split("-", 1)[1:]] for name in COMMANDS[1:]]
+    for words in [*([path] for path in paths if os.access(path, os.X_OK)), *tools]:
+        ended = subprocess.run([sys.executable, *words, "--help"], capture_output=True, text=True)
+        expect(f"the help of {words}: {ended.stderr}", ended.returncode == 0 and ended.stdout.startswith("usage: "))
 
 
 def failing_outputs() -> None:
     """What scripts say where their output takes no more, or nobody reads it."""
-    for script in ("scripts/explain.py", "scripts/draw.py", "scripts/why_none.py", "scripts/zarfepoch.py", "examples/generate.py"):
-        name, path = os.path.basename(script).removesuffix(".py"), os.path.join(TOP, script)
+    for module in ("explain", "draw", "why_none", "__main__", "generate"):
+        words = ("-m", f"zarfepoch.{module}")
+        name = "zarfepoch" if module == "__main__" else module
         with open("/dev/full", "wb") as full:
-            told = help_on(full, path)
-        expect(f"{script} on a full disk", told == (3, f"{name}: the standard output can't be written: No space left on device\n"))
+            told = help_on(full, *words)
+        expect(f"{name} on a full disk", told == (3, f"{name}: the standard output can't be written: No space left on device\n"))
         reader, writer = os.pipe()
         os.close(reader)
-        expect(f"{script} on a closed pipe", help_on(writer, path) == (1, ""))
+        expect(f"{name} on a closed pipe", help_on(writer, *words) == (1, ""))
         os.close(writer)
     unknown, refused = os.path.join(TOP, "nothing"), os.path.join(TOP, "README.md")
-    for words, status in ((["scripts/draw.py", unknown, unknown], 3), (["scripts/why_none.py", refused], 3),
-                          (["scripts/zarfepoch.py", "--json", unknown], 3), (["examples/generate.py", "queens", "999"], 2)):
-        ended = subprocess.run(["sh", "-c", 'exec "$@" 2>&-', "sh", sys.executable, os.path.join(TOP, words[0]), *words[1:]], capture_output=True)
-        expect(f"{words} without standard error", (ended.stdout, ended.returncode) == (b"", status))
+    for given, status in ((["draw", unknown, unknown], 3), (["why-none", refused], 3), (["--json", unknown], 3), (["generate", "queens", "999"], 2)):
+        ended = subprocess.run(["sh", "-c", 'exec "$@" 2>&-', "sh", sys.executable, LAUNCHER, *given], capture_output=True)
+        expect(f"{given} without standard error", (ended.stdout, ended.returncode) == (b"", status))
 
 
 def main() -> int:
@@ -654,6 +655,7 @@ def main() -> int:
     want_program(PROGRAM)
     want_command("cc")
     os.environ["ZARFEPOCH"] = PROGRAM
+    os.environ["PYTHONPATH"] = os.path.join(TOP, "python", "src")
     with tempfile.TemporaryDirectory() as folder:
         examples(folder)
         certificates(folder)

@@ -1,6 +1,6 @@
 """Writes a problem whose covers are those of a file that aren't given: it has none where the given ones are all.
 
-    python3 examples/another.py FILE ANSWER .. > OTHER
+    zarfepoch-another FILE ANSWER .. > OTHER
 
 A cover that isn't a given one lacks some option of it. So there is a primary item more for each answer, and for each option of the answer one
 that names this item and bars the option: it gives an item of the option's own another colour than the option does. Where that would be more than the
@@ -50,7 +50,7 @@ def chosen_options(problem: Problem, path: str, other: bytes) -> list[Words]:
     if answer.faults or answer.kind == "none":
         stop(f"{path} has no cover: {refusal(answer.faults) if answer.faults else 'none'}", 3)
     if answer.uncovered(problem) or answer.covered_twice(problem):
-        stop(f"{path} is no exact cover of the file; scripts/explain.py tells why", 3)
+        stop(f"{path} is no exact cover of the file; zarfepoch-explain tells why", 3)
     return list(dict.fromkeys(problem.options[place].words for _, place in answer.chosen))
 
 

@@ -1,6 +1,6 @@
 """Adds up a reason that `solve_cli why FILE` gives for `none`, and says whether it holds.
 
-    python3 scripts/check_reason.py FILE REASON
+    zarfepoch-check-reason FILE REASON
 
 REASON is a file with what `why` wrote, or - for the standard input. No search and no part of the program is needed: an exact cover names
 each primary item once. So where the weights in each option are a multiple of the modulus, all weights together are one; and where
@@ -127,7 +127,7 @@ def main() -> int:
         stop(why, 3)
     faults = read_problem(text).faults
     if faults:
-        stop(f"{given.file} is refused: {refusal(faults)}; scripts/explain.py {given.file} explains it", 3)
+        stop(f"{given.file} is refused: {refusal(faults)}; zarfepoch-explain {given.file} explains it", 3)
     problem, reason = lines_of(text), [words for words in lines_of(reason_text) if words]
     if reason[:1] != [[b"none"]]:
         print("no reason: the first line isn't 'none'")

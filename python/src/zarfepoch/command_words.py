@@ -2,21 +2,23 @@
 from __future__ import annotations
 
 import argparse
-import os
 import re
 import sys
 from typing import Optional
 
 
+TOOL = re.compile(r"\bzarfepoch-(another|check-certificate|check-reason|draw|explain|generate|join|split|why-none)\b")
+
+
 def as_called(text: str) -> str:
-    """A text that names scripts of a clone, with modules or installed commands in their place if the command was called as one."""
-    scripts = r"(?:python3 )?\b(?:scripts|examples)/(\w+)\.py\b"
-    is_installed = os.path.basename(sys.argv[0]).startswith("zarfepoch")
-    text = text.replace("crates/solve_cli/out/solve_cli", "solve_cli") if is_installed else text
-    if getattr(sys.modules["__main__"], "__spec__", None) is not None:
-        return re.sub(scripts, r"python3 -m zarfepoch.\1", text)
-    if os.path.basename(sys.argv[0]).startswith("zarfepoch-"):
-        return re.sub(scripts, lambda found: "zarfepoch-" + found[1].replace("_", "-"), text)
+    """A text that names the tools as they are installed, `zarfepoch-explain`; in their place are modules, or the words of the launcher in a clone, if the
+    command was called so."""
+    main = sys.modules["__main__"]
+    launcher = getattr(main, "LAUNCHER", None)
+    if launcher is not None:
+        return TOOL.sub(rf"{launcher} \1", text)
+    if getattr(main, "__spec__", None) is not None:
+        return TOOL.sub(lambda found: "python3 -m zarfepoch." + found[1].replace("-", "_"), text)
     return text
 
 

@@ -1,7 +1,7 @@
 """Draws an answer to a problem file: as text in the terminal, and as a picture in SVG.
 
-    python3 scripts/draw.py FILE ANSWER [--svg OUT] [--plan NAME ..] [--csv PLAN.csv] [--grid WEEK.csv] [--out-dir FOLDER]
-    crates/solve_cli/out/solve_cli answer FILE | python3 scripts/draw.py FILE -
+    zarfepoch-draw FILE ANSWER [--svg OUT] [--plan NAME ..] [--csv PLAN.csv] [--grid WEEK.csv] [--out-dir FOLDER]
+    solve_cli answer FILE | zarfepoch-draw FILE -
 
 The kind of picture follows from the names of the items: tilings (cells are named by row and column, as 07, 0011 or 3-12) and solids (by layer,
 row and column, as 0-1-2), queens (r0 c0 and diagonals), sudokus (p00 r01 c01 b01, with regions of any shape, diagonals x1 y1, cages k0.1),
@@ -13,11 +13,11 @@ empty board is drawn where there is one; what `solve --audit` or `answer --reaso
 
 Of a timetable whose periods have their days (Mon1) a plan is drawn for each class, or for those whom --plan names: names of classes, teachers
 or rooms, or classes, teachers, rooms or all. A week begins with Monday, and a sheet is at most 1,200 pixels wide. --csv writes the plan as a
-table, a row for each time that a lesson is given, for a spreadsheet and for generate.py timetable --keep. --grid writes the same plans as are drawn, as
+table, a row for each time that a lesson is given, for a spreadsheet and for zarfepoch-generate timetable --keep. --grid writes the same plans as are drawn, as
 a table that people read, with a row for each number of a period and a column for each day. Where one of these files is `-`, it is written in place of
 the text. --out-dir writes a picture NAME.svg and such a table NAME.csv into a folder for each of those whose plans are drawn.
 
-Comments of the file that generate.py writes say what items can't: the given digits of a sudoku, its regions and the marks for its digits
+Comments of the file that zarfepoch-generate writes say what items can't: the given digits of a sudoku, its regions and the marks for its digits
 (`| given: 4.3. ..`, `| regions: aabb ..`, `| digits: 0123..`), the grid of a crossword (`| grid: ..#.. ..`), the size of a kakuro, the
 shapes of pieces that have no item (`| piece L: xxx/x..`), who is a teacher, a class or a room (`| teachers: ann bob`), the order of
 periods, who takes part in a lesson without an item (`| also maths: hall`), the lesson that another follows (`| follows lab: chemistry`), their lengths
@@ -68,11 +68,11 @@ def read_files(given: Namespace) -> tuple[Problem, str, Answer]:
         stop(why, 3)
     problem = read_problem(text)
     if problem.faults:
-        stop(f"{called(given.file)} is refused: {refusal(problem.faults)}; scripts/explain.py {given.file} explains it", 3)
+        stop(f"{called(given.file)} is refused: {refusal(problem.faults)}; zarfepoch-explain {given.file} explains it", 3)
     want_answer(given.answer, answer_text)
     answer = read_audited(answer_text, problem)
     if answer.faults:
-        stop(f"{called(given.answer)} is refused: {refusal(answer.faults)}; scripts/explain.py {given.file} {given.answer} explains it", 3)
+        stop(f"{called(given.answer)} is refused: {refusal(answer.faults)}; zarfepoch-explain {given.file} {given.answer} explains it", 3)
     return problem, title_of(text, given.file), answer
 
 
@@ -141,7 +141,7 @@ def main() -> int:
     if "-" not in (given.svg, given.csv, given.grid):
         print("\n".join(picture.text()))
     if answer.kind == "cover" and (answer.uncovered(problem) or answer.covered_twice(problem)):
-        complain(f"this is no exact cover; scripts/explain.py {given.file} {given.answer} tells why")
+        complain(f"this is no exact cover; zarfepoch-explain {given.file} {given.answer} tells why")
     return 0
 
 

@@ -1,6 +1,6 @@
 """Explains a problem file, and an answer to it: lists the mistakes, or what the file has.
 
-    python3 scripts/explain.py FILE [ANSWER]
+    zarfepoch-explain FILE [ANSWER]
 
 docs/FORMAT.md has the format; one of the files may be `-`, the standard input. For a file that the program refuses it lists the first
 200 mistakes, each with its line, its column (in characters, from 1; a tab is one), the word, and what was expected; the first line is

@@ -1,8 +1,8 @@
-"""Makes problem files of the kinds that stand in this folder.
+"""Makes problem files of the kinds that stand in the folder examples.
 
-    python3 examples/generate.py KIND .. > FILE    writes a problem of this kind on the standard output
-    python3 examples/generate.py                   writes the larger example files into this folder
-    --out FILE                                     writes the problem into FILE, and nothing where it is refused
+    zarfepoch-generate KIND .. > FILE    writes a problem of this kind on the standard output
+    zarfepoch-generate                   writes the larger example files of a clone into its folder examples
+    --out FILE                           writes the problem into FILE, and nothing where it is refused
 
     queens 12                      queens on a board of 12 by 12
     langford 8                     pairs of 1 to 8
@@ -54,7 +54,7 @@ Blanks, commas and semicolons part the names of a line. In a table of lessons, w
 
 The table of --rules has the columns who,periods,away,a_day,holes, with a row for a teacher, a class or a room, for teachers, classes, rooms or all, or
 for lessons (a_day alone): when they can be had, or when not; at most so many periods on a day; and at most so many holes in the week, free
-periods between two lessons of a day. An empty cell says nothing. --keep tries the places of a plan first, which draw.py --csv writes. A timetable beyond
+periods between two lessons of a day. An empty cell says nothing. --keep tries the places of a plan first, which zarfepoch-draw --csv writes. A timetable beyond
 what the program reads goes into several files, FILE-1.dlx and on, where some lessons share nobody and no room with others.
 
 FILE may be -, the standard input. The first line of each problem is a comment that tells what it is and how it was made. A problem beyond
@@ -745,7 +745,7 @@ def add_options(kinds: dict[str, argparse.ArgumentParser]) -> None:
     kinds["coloring"].add_argument("--colors", default="red,green,blue", help="the colours, with commas (default red,green,blue)")
     kinds["squares"].add_argument("--border", metavar="COLOUR", help="the colour of all sides that look outwards")
     kinds["timetable"].add_argument("--rules", metavar="FILE.csv", help="who can be had when, and how many periods and holes they may have")
-    kinds["timetable"].add_argument("--keep", metavar="PLAN.csv", help="a plan whose places are tried first, as draw.py --csv writes one")
+    kinds["timetable"].add_argument("--keep", metavar="PLAN.csv", help="a plan whose places are tried first, as zarfepoch-draw --csv writes one")
     kinds["timetable"].add_argument("--seed", metavar="N", type=whole_number,
                                     help="draws the order of the options by lot: where a search doesn't end, another N may help")
 

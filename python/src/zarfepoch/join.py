@@ -1,9 +1,9 @@
-"""Joins the answers of a search's parts, which scripts/split.py wrote, to the answer of the whole.
+"""Joins the answers of a search's parts, which zarfepoch-split wrote, to the answer of the whole.
 
-    python3 scripts/join.py FOLDER [--left] [--certificate OUT]
+    zarfepoch-join FOLDER [--left] [--certificate OUT]
 
 It writes a cover of the whole file as soon as one part has one: the part's options with those of its prefix, counted here, in the order of the
-file. It writes `none` only if each part of the list has the answer `none`, and is to the byte what split.py writes now of FOLDER/whole.dlx; the list
+file. It writes `none` only if each part of the list has the answer `none`, and is to the byte what zarfepoch-split writes now of FOLDER/whole.dlx; the list
 is compared too. Else it writes `no answer`, and standard error names the parts without an answer, as Slurm's --array reads them. The answer of
 part-7.dlx is what the program wrote, in part-7.answer. A file that is empty, or says `no answer`, is no answer.
 
@@ -83,15 +83,15 @@ def read_part(folder: str, number: int, tree: Tree, prefix: Prefix) -> Part:
 
 
 def changed_in(path: str, text: bytes) -> Optional[str]:
-    """Why a file isn't what split.py writes."""
+    """Why a file isn't what zarfepoch-split writes."""
     try:
-        return None if read_bytes(path) == text else f"{path} was changed: split.py writes something else"
+        return None if read_bytes(path) == text else f"{path} was changed: zarfepoch-split writes something else"
     except Unreadable as why:
         return str(why)
 
 
 def compared(part: Part, folder: str, text: bytes) -> Part:
-    """A part whose answer counts only if its problem is what split.py writes; a cover of the whole was counted, and stays one."""
+    """A part whose answer counts only if its problem is what zarfepoch-split writes; a cover of the whole was counted, and stays one."""
     fault = changed_in(path_in(folder, part_name(part.number)), text)
     return part._replace(is_none=False, fault=fault) if fault else part
 
@@ -108,14 +108,14 @@ def certified(part: Part, folder: str, text: bytes) -> Part:
 
 
 def number_in(folder: str) -> int:
-    """The number of parts that split.py was given."""
+    """The number of parts that zarfepoch-split was given."""
     path = path_in(folder, LIST)
     try:
         head = re.match(rb"at least ([1-9][0-9]{0,5}) parts\n", read_bytes(path))
     except Unreadable as why:
         stop(why, 3)
     if not head or int(head[1]) > MOST_PARTS:
-        stop(f"{path} was changed: split.py writes something else", 3)
+        stop(f"{path} was changed: zarfepoch-split writes something else", 3)
     return int(head[1])
 
 
@@ -186,7 +186,7 @@ def write_certificate(tree: Tree, found: Split, folder: str, parts: list[Part], 
 
 def main() -> int:
     words = parser_of(__doc__)
-    words.add_argument("folder", metavar="FOLDER", help="the folder that split.py made")
+    words.add_argument("folder", metavar="FOLDER", help="the folder that zarfepoch-split made")
     words.add_argument("--left", action="store_true", help="write the paths of the parts that are still to be searched")
     words.add_argument("--certificate", metavar="OUT", help="count a part's none only by its certificate, and join these")
     given = words.parse_args()

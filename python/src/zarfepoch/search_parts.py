@@ -163,7 +163,7 @@ def cover_text(tree: Tree, places: Sequence[int]) -> bytes:
 
 def refused(path: str, why: str) -> NoReturn:
     """Ends a script that reads a refused problem."""
-    stop(f"{path} is refused: {why}; scripts/explain.py {path} explains it", 3)
+    stop(f"{path} is refused: {why}; zarfepoch-explain {path} explains it", 3)
 
 
 def read_tree(path: str) -> tuple[bytes, Tree]:

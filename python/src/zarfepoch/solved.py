@@ -88,7 +88,7 @@ def command_line() -> argparse.ArgumentParser:
         words.add_argument("--seconds", metavar="N", type=positive, default=argparse.SUPPRESS, help="how long a search may take")
         if words.prog.endswith("timetable"):
             add_tables(words)
-            words.add_argument("--plan", metavar="NAME", nargs="+", action="extend", default=[], help="whose plans are drawn, as draw.py does")
+            words.add_argument("--plan", metavar="NAME", nargs="+", action="extend", default=[], help="whose plans are drawn, as zarfepoch-draw does")
     return parser
 
 
@@ -302,4 +302,4 @@ def solve_kind(given: Namespace, words: list[str]) -> int:
 
 
 def kind_missing() -> str:
-    return as_called("a KIND is missing, as in: zarfepoch sudoku FILE; examples/generate.py --help describes all of them")
+    return as_called("a KIND is missing, as in: zarfepoch sudoku FILE; zarfepoch-generate --help describes all of them")

@@ -1,6 +1,6 @@
 """Takes a search apart into parts, each a problem file of its own, which may be searched anywhere and at any time.
 
-    python3 scripts/split.py FILE --parts N --into FOLDER
+    zarfepoch-split FILE --parts N --into FOLDER
 
 The search tree of FILE is taken apart by the branching of the program, breadth first, until at least N prefixes are open. FOLDER, which is made
 and must be missing or empty, gets part-1.dlx and so on in the order of the search, whole.dlx (a copy of FILE), and parts.txt, the list of all
@@ -8,7 +8,7 @@ prefixes with the numbers of their options from 0. In a part the options of the 
 are comments, name the prefix. So the covers of a part, each with its prefix, are the covers of FILE that extend the prefix. A prefix with an item
 that has no option left is closed, and the list says so. If a prefix is a cover, there are no parts, and the list has the cover alone.
 
-scripts/join.py FOLDER reads the answers of the parts; docs/MACHINES.md shows how they are searched. FILE may be -, the standard input. It wants no
+zarfepoch-join FOLDER reads the answers of the parts; docs/MACHINES.md shows how they are searched. FILE may be -, the standard input. It wants no
 built program. The exit status is 0, 2 for a mistake on the command line, or 3 for a file that can't be read or is refused, or a folder that
 can't be written.
 """
@@ -53,7 +53,7 @@ def write_all(folder: str, files: Iterable[tuple[str, bytes]]) -> None:
 
 def told(found: Split, folder: str) -> str:
     """What was done, in a line."""
-    join = as_called(f"python3 scripts/join.py {shlex.quote(folder)}")
+    join = as_called(f"zarfepoch-join {shlex.quote(folder)}")
     if found.cover:
         return f"a cover was met; {join} writes it"
     if not found.parts:

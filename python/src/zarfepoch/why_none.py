@@ -1,6 +1,6 @@
 """Says why a problem file has no cover, in words that can be checked by hand, and draws it.
 
-    python3 scripts/why_none.py FILE [--svg OUT] [--search] [--fuel N]
+    zarfepoch-why-none FILE [--svg OUT] [--search] [--fuel N]
 
 First it asks the program for a reason (solve_cli why FILE): an item in no option; too little room, as 25 lessons for the 24 periods
 of their teacher; or weights that each option adds up to 0 modulo some number, and all items together don't, as the colours of a
@@ -153,7 +153,7 @@ def read(path: str) -> tuple[bytes, Problem]:
         stop(why, 3)
     problem = read_problem(text)
     if problem.faults:
-        stop(f"{path} is refused: {refusal(problem.faults)}; scripts/explain.py {path} explains it", 3)
+        stop(f"{path} is refused: {refusal(problem.faults)}; zarfepoch-explain {path} explains it", 3)
     return text, problem
 
 
