@@ -15,7 +15,7 @@ import stat
 import subprocess
 import sys
 import xml.etree.ElementTree as tree
-from typing import Optional
+from typing import Optional, Union
 
 from hypothesis import HealthCheck, given, settings, strategies as some
 import pytest
@@ -451,28 +451,35 @@ def test_folded_lines() -> None:
     assert are_whole and all(text_width(part, 13) <= 100 for part in parts), f"lines that fit: {parts}"
 
 
-def test_refusals(trial: Drawing) -> None:
-    for words in (["queens", "142"], ["queens", "0"], ["langford", "200"], ["pentominoes", "7x9"], ["pentominoes", "5"],
-                  ["sudoku", "8......."], ["sudoku", "11" + "." * 79], ["dominoes", "2x2", "--without", "2,0"],
-                  ["timetable", trial.folder], ["coloring", "nothing"],
-                  ["squares", "3x3", trial.path("four", FOUR)], ["squares", "2x2", trial.path("three", b"a b c d\n")],
-                  ["words", trial.path("uneven", b"one two three\n")], ["words", trial.path("empty", b"\n")],
-                  ["nonogram", trial.path("lines", b"1\n1\n")], ["nonogram", trial.path("cells", b"1\n\n2\n0\n")],
-                  ["cubes", trial.path("five", b"a r g b w r\n")], ["crossword", trial.path("rows", b"..\n.\n"), trial.path("list", b"ab\n")],
-                  ["crossword", trial.path("black", b"##\n##\n"), trial.path("list", b"ab\n")],
-                  ["timetable", trial.path("head", b"lesson;teacher\na;b\n")],
-                  ["timetable", trial.path("more", b"lesson,teacher,class,rooms,periods\nart,bob,5a,room,1,2,3\n")],
-                  ["timetable", trial.path("blank", b"lesson,teacher,class,rooms,periods\nart,bob,5a,;,1\n")],
-                  ["langford", "9999"], ["queens", "9999"], ["dominoes", "999x999"], ["coloring", trial.path("one", b"a b\n"), "--colors", "red,,blue"],
-                  ["coloring", trial.path("one"), "--colors", "red,\udce9"],
-                  ["timetable", trial.path("roles", b"lesson,teacher,class,rooms,periods\nart,bob,5a,bob,1\n")],
-                  ["triples", "60"], ["matching", trial.path("edges", b"a b c\n")], ["coloring", trial.path("borders", b"a-b c\n")]):
-        ended = trial.python("generate", *words)
-        is_plain = ended.stderr and b"Traceback" not in ended.stderr
-        assert ended.returncode in (1, 2, 3) and not ended.stdout and is_plain, f"{words} is refused"
+# what generate.py refuses, by its words; bytes are the content of a file
+REFUSED: list[list[Union[str, bytes]]] = [
+    ["queens", "142"], ["queens", "0"], ["langford", "200"], ["pentominoes", "7x9"], ["pentominoes", "5"], ["sudoku", "8......."],
+    ["sudoku", "11" + "." * 79], ["dominoes", "2x2", "--without", "2,0"], ["timetable", "examples"], ["coloring", "nothing"],
+    ["squares", "3x3", FOUR], ["squares", "2x2", b"a b c d\n"], ["words", b"one two three\n"], ["words", b"\n"], ["nonogram", b"1\n1\n"],
+    ["nonogram", b"1\n\n2\n0\n"], ["cubes", b"a r g b w r\n"], ["crossword", b"..\n.\n", b"ab\n"], ["crossword", b"##\n##\n", b"ab\n"],
+    ["timetable", b"lesson;teacher\na;b\n"], ["timetable", b"lesson,teacher,class,rooms,periods\nart,bob,5a,room,1,2,3\n"],
+    ["timetable", b"lesson,teacher,class,rooms,periods\nart,bob,5a,;,1\n"], ["langford", "9999"], ["queens", "9999"], ["dominoes", "999x999"],
+    ["coloring", b"a b\n", "--colors", "red,,blue"], ["coloring", b"a b\n", "--colors", "red,\udce9"],
+    ["timetable", b"lesson,teacher,class,rooms,periods\nart,bob,5a,bob,1\n"], ["triples", "60"], ["matching", b"a b c\n"], ["coloring", b"a-b c\n"]]
+
+
+@pytest.mark.parametrize("words", REFUSED, ids=ascii)
+def test_refused(trial: Drawing, words: list[Union[str, bytes]], monkeypatch: pytest.MonkeyPatch) -> None:
+    # (examples is a folder there)
+    monkeypatch.chdir(TOP)
+    paths = [word if isinstance(word, str) else trial.path(f"file-{place}", word) for place, word in enumerate(words)]
+    ended = trial.python("generate", *paths)
+    is_plain = ended.stderr and b"Traceback" not in ended.stderr
+    assert ended.returncode in (1, 2, 3) and not ended.stdout and is_plain, f"{words} is refused"
+
+
+def test_many_squares(trial: Drawing) -> None:
     many = trial.path("many", b"".join(b"q%d a b c d\n" % number for number in range(961)))
     ended = trial.python("generate", "squares", "31x31", many)
     assert ended.returncode == 3 and b"in more than 20,000 ways" in ended.stderr, "many squares are refused before they are laid"
+
+
+def test_refusals_of_draw(trial: Drawing) -> None:
     file = trial.path("bad.dlx", b"a b\na c\n")
     letters_file = os.path.join(EXAMPLES, "letters.dlx")
     for words in ([file, file], [letters_file, file], [letters_file, trial.folder], ["nothing", file]):

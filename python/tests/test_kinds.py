@@ -23,6 +23,8 @@ from plan_rules import faults
 
 ONLY, OTHER = "It is the only solution.", "There is another solution; --all draws each."
 UNIQUE = "8..........36......7..9.2...5...7.......457.....1...3...1....68..85...1..9....4.."
+SUDOKU = """5 3 . . 7 . . . .\n6 . . 1 9 5 . . .\n. 9 8 . . . . 6 .\n8 . . . 6 . . . 3\n4 . . 8 . 3 . . 1\n7 . . . 2 . . . 6
+. 6 . . . . 2 8 .\n. . . 4 1 9 . . 5\n. . . . 8 . . 7 9\n"""
 
 
 class Solving:
@@ -60,17 +62,25 @@ def test_kind(trial: Solving, times: int, kind: str) -> None:
         assert lines[-1] in (ONLY, OTHER), f"{kind} {number}: {lines[-1:]}"
 
 
-def test_only_ones(trial: Solving) -> None:
+def in_files(trial: Solving, words: list[str]) -> list[str]:
+    """The words of a command, with a file in place of each that has more than one line."""
+    return [trial.path(f"file-{place}.txt", word) if "\n" in word else word for place, word in enumerate(words)]
+
+
+@pytest.mark.parametrize("words, told", (
+    (["sudoku", UNIQUE], ONLY), (["sudoku", "." * 16], OTHER), (["langford", "3"], OTHER), (["queens", "1"], ONLY), (["queens", "6"], OTHER),
+    (["killer", os.path.join(TOP, "examples", "killer.txt")], ONLY), (["sudoku", os.path.join(TOP, "examples", "sudoku.txt")], ONLY),
+    (["crossword", "..\n#.\n", "ab bc\n"], ONLY), (["crossword", "..\n#.\n", "ab bc bd\n"], OTHER), (["nonogram", "1\n3\n1\n\n1\n3\n1\n"], ONLY),
+    (["nonogram", "1\n1\n\n1\n1\n"], OTHER)), ids=ascii)
+def test_only_ones(trial: Solving, words: list[str], told: str) -> None:
     """Whether an answer is the only one."""
-    grid = trial.path("grid.txt", "..\n#.\n")
-    for words, told in ((["sudoku", UNIQUE], ONLY), (["sudoku", "." * 16], OTHER), (["langford", "3"], OTHER), (["queens", "1"], ONLY), (["queens", "6"], OTHER),
-                        (["killer", os.path.join(TOP, "examples", "killer.txt")], ONLY),
-                        (["sudoku", os.path.join(TOP, "examples", "sudoku.txt")], ONLY), (["crossword", grid, trial.path("one.txt", "ab bc\n")], ONLY),
-                        (["crossword", grid, trial.path("two.txt", "ab bc bd\n")], OTHER),
-                        (["nonogram", trial.path("cross.txt", "1\n3\n1\n\n1\n3\n1\n")], ONLY), (["nonogram", trial.path("two-by-two.txt", "1\n1\n\n1\n1\n")], OTHER)):
-        status, lines, errors = trial.run(*words)
-        assert status == 0 and lines[-1] == told, f"{words}: {lines[-1:]} {errors}"
-        assert trial.run(*words, "--one")[1][-1] not in (ONLY, OTHER), f"{words} with --one"
+    words = in_files(trial, words)
+    status, lines, errors = trial.run(*words)
+    assert status == 0 and lines[-1] == told, f"{words}: {lines[-1:]} {errors}"
+    assert trial.run(*words, "--one")[1][-1] not in (ONLY, OTHER), f"{words} with --one"
+
+
+def test_a_large_board(trial: Solving) -> None:
     large = trial.path("large.txt", "\n".join(["30"] * 30) + "\n\n" + "\n".join(["30"] * 30) + "\n")
     assert trial.run("nonogram", large)[1][-1] == ONLY, "a board of 30 by 30"
 
@@ -78,15 +88,21 @@ def test_only_ones(trial: Solving) -> None:
 # what can't be, each with words that have to be told
 NONE = ((["queens", "3"], "There is no solution."), (["langford", "5"], "each option names an even number of these items"),
         (["board", "3x3", "--pieces", "4*I2 I1"], ""),
-        (["dominoes", "4x4", "--without", "0,0", "3,3"], "each of these needs one: row 1 column 2"))
+        (["dominoes", "4x4", "--without", "0,0", "3,3"], "each of these needs one: row 1 column 2"),
+        (["sudoku", "12..\n..3.\n....\n...3\n"], "nothing is possible for a 3 in box 1"),
+        (["sudoku", SUDOKU.replace("7 .", "7 2", 1)], "nothing is possible for an 8 in box 2"))
+
+
+@pytest.mark.parametrize("words, told", NONE, ids=[told or "a board with a hole" for _, told in NONE])
+def test_none(trial: Solving, words: list[str], told: str) -> None:
+    """What is told where there is no answer, in the puzzle's words."""
+    words = in_files(trial, words)
+    status, lines, errors = trial.run(*words)
+    assert status == (1 if told else 0) and told in "\n".join(lines), f"{words}: {status} {lines} {errors}"
 
 
 def test_reasons(trial: Solving) -> None:
-    """What is told where there is no answer, in the puzzle's words."""
-    for words, told in (*NONE, (["sudoku", trial.path("four.txt", "12..\n..3.\n....\n...3\n")], "nothing is possible for a 3 in box 1"),
-                                (["sudoku", trial.path("eight.txt", SUDOKU.replace("7 .", "7 2", 1))], "nothing is possible for an 8 in box 2")):
-        status, lines, errors = trial.run(*words)
-        assert status == (1 if told else 0) and told in "\n".join(lines), f"{words}: {status} {lines} {errors}"
+    """What is told of cubes and of a timetable."""
     cubes = trial.path("cubes.txt", "one r r r r r r\ntwo r r r r r b\n")
     made = trial.path("cubes.dlx")
     trial.run("cubes", cubes, "--out", made, module="zarfepoch.generate")
@@ -268,10 +284,6 @@ def test_written(trial: Solving) -> None:
     for program, wanted in (("/dev/null", 2), ("/bin/false", 3), ("/bin/true", 3)):
         status, _, errors = trial.run("queens", "4", program=program)
         assert status == wanted and "Traceback" not in errors, f"the program {program}: {status} {errors}"
-
-
-SUDOKU = """5 3 . . 7 . . . .\n6 . . 1 9 5 . . .\n. 9 8 . . . . 6 .\n8 . . . 6 . . . 3\n4 . . 8 . 3 . . 1\n7 . . . 2 . . . 6
-. 6 . . . . 2 8 .\n. . . 4 1 9 . . 5\n. . . . 8 . . 7 9\n"""
 
 
 def test_spellings(trial: Solving) -> None:
