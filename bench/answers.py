@@ -34,7 +34,7 @@ from encodings_of_peers import formula_of, program_of, read
 from implied import highs
 
 HERE = os.path.dirname(os.path.abspath(__file__))
-sys.path.insert(0, os.path.join(HERE, "..", "scripts"))
+sys.path.insert(0, os.path.join(HERE, "..", "trials"))
 from built import SOLVE_CLI, number_from_one, parser_of, path_of, want_program  # noqa: E402
 
 WAYS = [["answer"], ["alone"], ["alone", "--unlimited"], ["learn"], ["solve", "--nodes", "1", "--workers", "4"]]

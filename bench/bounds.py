@@ -35,7 +35,7 @@ from collections.abc import Callable
 from typing import NamedTuple
 
 HERE = os.path.dirname(os.path.abspath(__file__))
-sys.path.insert(0, os.path.join(HERE, "..", "scripts"))
+sys.path.insert(0, os.path.join(HERE, "..", "trials"))
 import audits  # noqa: E402
 import books  # noqa: E402
 import finding  # noqa: E402

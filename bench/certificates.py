@@ -4,7 +4,7 @@
     python3 bench/certificates.py [--times N] [--checker PROGRAM] [NAME ..]
 
 Each instance that is named, or each of some without a cover, is answered by `alone --unlimited` with and without --certificate, and by `learn`
-with and without; both certificates are checked by `check`, by scripts/check_certificate.py, and by PROGRAM, which gets the same two files and
+with and without; both certificates are checked by `check`, by scripts/zarfepoch check-certificate, and by PROGRAM, which gets the same two files and
 ends with status 0. The least user and system time of a process counts, in seconds; those that have no answer in a minute have a dash. Lines are
 those of the certificate, beside its size as it is and by gzip.
 
@@ -22,13 +22,13 @@ import tempfile
 from typing import NamedTuple, Optional
 
 HERE = os.path.dirname(os.path.abspath(__file__))
-sys.path.insert(0, os.path.join(HERE, "..", "scripts"))
+sys.path.insert(0, os.path.join(HERE, "..", "trials"))
 from built import number_from_one, parser_of, SOLVE_CLI, stop, want_program  # noqa: E402
 from states import write_instances  # noqa: E402
 
 NAMES = ("langford-13", "pigeons-12", "torus-queens-14", "torus-queens-15", "torus-queens-16", "triples-19", "triples-22", "word-squares-4")
 WAYS = {"alone": ["alone", "--unlimited"], "learn": ["learn"]}
-CHECK = os.path.join(HERE, "..", "scripts", "check_certificate.py")
+CHECK = [sys.executable, os.path.join(HERE, "..", "scripts", "zarfepoch"), "check-certificate"]
 SECONDS = 60
 
 
@@ -79,7 +79,7 @@ def row(name: str, file: str, way: str, times: int, checker: Optional[str]) -> s
         written = "-" if plain == "-" else least([*words, "--certificate", out], 1, times)
         if written == "-" or not os.path.exists(out):
             return f"| {name} | {way} | {plain} | {written} |" + " - |" * 6
-        checks = [[SOLVE_CLI, "check", file, out], [sys.executable, CHECK, file, out], *([[checker, file, out]] if checker else [])]
+        checks = [[SOLVE_CLI, "check", file, out], [*CHECK, file, out], *([[checker, file, out]] if checker else [])]
         took = [least(check, 0, times) for check in checks]
         return f"| {name} | {way} | " + " | ".join([plain, written, *size_of(out), *took, *([] if checker else ["-"])]) + " |"
 

@@ -23,7 +23,7 @@ from collections.abc import Callable
 from typing import Optional
 
 HERE = os.path.dirname(os.path.abspath(__file__))
-sys.path.insert(0, os.path.join(HERE, "..", "scripts"))
+sys.path.insert(0, os.path.join(HERE, "..", "trials"))
 from built import SOLVE_CLI, number_from_one, parser_of, want_program  # noqa: E402
 
 ORDER, EMPTY = 30, 325

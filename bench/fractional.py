@@ -9,7 +9,7 @@ The kinds: `courts`, teams of which each trains on two of as many courts, or in 
 
 N instances are drawn of each kind (default 3). A row has the items and options; the processor seconds of `why`, reading included, and of HiGHS, which
 looks for the same multipliers; and of the reason all needs, all rooms and the greatest of them. A dash: nothing within so many seconds (default 10).
-Each reason is added up by `scripts/check_reason.py`. With --write the problems are written, and nothing is run.
+Each reason is added up by `scripts/zarfepoch check-reason`. With --write the problems are written, and nothing is run.
 
 It wants the program, and SciPy for HiGHS. The exit status is 0, 1 where a reason doesn't hold, 2 for a mistake on the command line or where there is
 no program.
@@ -166,7 +166,7 @@ def cells_of(file: str, seconds: int) -> list[str]:
     cells = [f"{items:,}", f"{options:,}"]
     if not written.startswith("none\n"):
         return [*cells, "-", highs(file, seconds), "-", "-", "-"]
-    checked = subprocess.run([sys.executable, os.path.join(TOP, "scripts", "check_reason.py"), file, "-"], input=written, capture_output=True, text=True)
+    checked = subprocess.run([sys.executable, os.path.join(TOP, "scripts", "zarfepoch"), "check-reason", file, "-"], input=written, capture_output=True, text=True)
     if checked.returncode:
         sys.exit(f"{file}: {checked.stdout}")
     words = [line.split() for line in written.splitlines()]

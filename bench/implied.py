@@ -32,7 +32,7 @@ from encodings_of_peers import read
 from learning import cadical, clasp, timed, Told
 
 HERE = os.path.dirname(os.path.abspath(__file__))
-sys.path.insert(0, os.path.join(HERE, "..", "scripts"))
+sys.path.insert(0, os.path.join(HERE, "..", "trials"))
 from built import SOLVE_CLI, number_from_one, parser_of, want_program  # noqa: E402
 
 POINTS, MODULUS, BLOCK, EXAMS, SLOTS, CLIQUE, LINES = 13, 25, 4, 30, 9, 10, 13

@@ -13,7 +13,7 @@ import random
 import sys
 
 HERE = os.path.dirname(os.path.abspath(__file__))
-sys.path.insert(0, os.path.join(HERE, "..", "scripts"))
+sys.path.insert(0, os.path.join(HERE, "..", "trials"))
 from built import parser_of, stop  # noqa: E402
 from zarfepoch.generate import PENTOMINOES, langford, orientations, rectangle, shape  # noqa: E402
 from zarfepoch import generate  # noqa: E402

@@ -31,7 +31,7 @@ import finding
 from encodings_of_peers import formula_of, program_of
 
 HERE = os.path.dirname(os.path.abspath(__file__))
-sys.path.insert(0, os.path.join(HERE, "..", "scripts"))
+sys.path.insert(0, os.path.join(HERE, "..", "trials"))
 from built import SOLVE_CLI, number_from_one, parser_of, want_program  # noqa: E402
 
 CLASSES, TEACHERS, DAYS, HOURS = 8, 9, 5, 6

@@ -31,7 +31,7 @@ import time
 from typing import NamedTuple
 
 HERE = os.path.dirname(os.path.abspath(__file__))
-sys.path.insert(0, os.path.join(HERE, "..", "scripts"))
+sys.path.insert(0, os.path.join(HERE, "..", "trials"))
 from built import SOLVE_CLI, TOP, number_from_one, parser_of, stop, want_command, want_program  # noqa: E402
 
 # items and options; and whether there is a cover, behind a search without one
@@ -98,12 +98,12 @@ def logged(folder: str) -> list[float]:
 
 
 def script(name: str, *words: str) -> list[str]:
-    return [sys.executable, os.path.join(TOP, "scripts", name), *words]
+    return [sys.executable, os.path.join(TOP, "scripts", "zarfepoch"), name, *words]
 
 
 def is_right(name: str, folder: str) -> bool:
     """Whether the joined answer is of the kind that it has to be, and a cover right."""
-    said = subprocess.run(script("join.py", folder), capture_output=True, text=True)
+    said = subprocess.run(script("join", folder), capture_output=True, text=True)
     answer = os.path.join(folder, "answer")
     with open(answer, "w", encoding="ascii") as file:
         file.write(said.stdout)
@@ -117,13 +117,13 @@ def row(name: str, given: argparse.Namespace, top: str) -> bool:
     """Times an instance, prints its row, and answers whether its answer is right."""
     file, folder = os.path.join(top, f"{name}.dlx"), os.path.join(top, name)
     write(file, *INSTANCES[name])
-    split = timed(script("split.py", file, "--parts", str(given.parts), "--into", folder))
+    split = timed(script("split", file, "--parts", str(given.parts), "--into", folder))
     parts = len(glob.glob(os.path.join(folder, "part-*.dlx")))
     run_part = os.path.join(TOP, "scripts", "run_part.sh")
     # (parallel hands its command to a shell once more)
     line = (f'"$@" --left | parallel --will-cite --jobs {given.jobs} --joblog {shlex.quote(f"+{folder}/log")} --halt now,success=1 '
             f'{shlex.quote(shlex.quote(run_part))} {{}} alone')
-    words = ["sh", "-c", line, "sh", *script("join.py", folder)]
+    words = ["sh", "-c", line, "sh", *script("join", folder)]
     first = killed_after(words, folder, parts // 2)
     done = answers(folder)
     second = timed(words)

@@ -20,7 +20,7 @@ import sys
 import tempfile
 
 HERE = os.path.dirname(os.path.abspath(__file__))
-sys.path.insert(0, os.path.join(HERE, "..", "scripts"))
+sys.path.insert(0, os.path.join(HERE, "..", "trials"))
 from built import number_from_one, parser_of, SOLVE_CLI, want_program  # noqa: E402
 
 ITEMS, OPTIONS, EACH = 1000, 20000, 10

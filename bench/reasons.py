@@ -3,10 +3,10 @@
 
     python3 bench/reasons.py [--seconds N] [--times N] [NAME ..]
 
-Each instance that is named, or each of all, is given to `solve_cli why`, `solve_cli alone --unlimited` and `scripts/why_none.py`. Each has N
+Each instance that is named, or each of all, is given to `solve_cli why`, `solve_cli alone --unlimited` and `scripts/zarfepoch why-none`. Each has N
 seconds (default 60); a dash stands where it didn't end. The table has the reason, how many items have a number in it, and the
 least processor seconds of each, but of `alone` the least wall seconds, since it looks for a reason after a tenth of a second by the clock.
-Each reason is added up by `scripts/check_reason.py`.
+Each reason is added up by `scripts/zarfepoch check-reason`.
 
 It wants the program: (cd crates/solve_cli && rt run -- --version) builds it. The exit status is 0, 1 where a reason doesn't hold or two
 come to other outcomes, 2 for a mistake on the command line or where there is no program.
@@ -24,11 +24,11 @@ from collections.abc import Iterator
 from typing import NamedTuple, Optional
 
 HERE = os.path.dirname(os.path.abspath(__file__))
-sys.path.insert(0, os.path.join(HERE, "..", "scripts"))
+sys.path.insert(0, os.path.join(HERE, "..", "trials"))
 from built import SOLVE_CLI, TOP, number_from_one, parser_of, stop, want_program  # noqa: E402
 from zarfepoch import generate  # noqa: E402
 
-SCRIPTS = os.path.join(TOP, "scripts")
+ZARFEPOCH = [sys.executable, os.path.join(TOP, "scripts", "zarfepoch")]
 EXAMPLES = ("langford-5", "mutilated-chessboard", "tetrominoes-4x5")
 INSTANCES = ("triples-19", "triples-22", "torus-queens-14", "torus-queens-14-all", "torus-queens-15", "torus-queens-15-all",
              "torus-queens-16", "torus-queens-16-all", "diamond", "scattered-19", "crowd", "word-squares-4", "sudoku-hard")
@@ -150,7 +150,7 @@ def run(words: list[str], seconds: int, times: int) -> Optional[Ran]:
 
 def reason_of(file: str, text: str) -> tuple[str, str]:
     """The kind of a reason in a word or two, and how many items have a number; ends where it doesn't hold."""
-    checked = subprocess.run([sys.executable, os.path.join(SCRIPTS, "check_reason.py"), file, "-"], input=text, capture_output=True, text=True)
+    checked = subprocess.run([*ZARFEPOCH, "check-reason", file, "-"], input=text, capture_output=True, text=True)
     if checked.returncode:
         sys.exit(f"{file}: {checked.stdout}")
     _, kind, *lines = text.splitlines()
@@ -161,7 +161,7 @@ def cells_of(file: str, seconds: int, times: int) -> Iterator[str]:
     """The cells of an instance's row."""
     why = run([SOLVE_CLI, "why", file], seconds, times)
     alone = run([SOLVE_CLI, "alone", file, "--unlimited"], seconds, times)
-    script = run([sys.executable, os.path.join(SCRIPTS, "why_none.py"), file], seconds, times)
+    script = run([*ZARFEPOCH, "why-none", file], seconds, times)
     reason = why.text if why and why.status == 1 else None
     if reason is not None and alone and alone.status != 1:
         sys.exit(f"{file}: a reason, and a cover")

@@ -25,7 +25,7 @@ import tempfile
 from typing import Optional
 
 HERE = os.path.dirname(os.path.abspath(__file__))
-sys.path.insert(0, os.path.join(HERE, "..", "scripts"))
+sys.path.insert(0, os.path.join(HERE, "..", "trials"))
 from built import WORKBENCH, number_from_one, parser_of, stop, want_program  # noqa: E402
 from zarfepoch import generate  # noqa: E402
 

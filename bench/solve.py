@@ -26,7 +26,7 @@ import tempfile
 import time
 
 HERE = os.path.dirname(os.path.abspath(__file__))
-sys.path.insert(0, os.path.join(HERE, "..", "scripts"))
+sys.path.insert(0, os.path.join(HERE, "..", "trials"))
 from built import number_from_one, parser_of, SOLVE_CLI, stop, want_program  # noqa: E402
 from states import write_instances  # noqa: E402
 from zarfepoch import generate  # noqa: E402

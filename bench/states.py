@@ -29,7 +29,7 @@ from functools import partial
 from typing import Optional
 
 HERE = os.path.dirname(os.path.abspath(__file__))
-sys.path.insert(0, os.path.join(HERE, "..", "scripts"))
+sys.path.insert(0, os.path.join(HERE, "..", "trials"))
 from built import SOLVE_CLI, WORKBENCH, number_from_one, parser_of, stop, want_program  # noqa: E402
 from encodings_of_peers import formula_of, program_of  # noqa: E402
 from zarfepoch import generate  # noqa: E402

@@ -21,7 +21,7 @@ import sys
 from collections.abc import Sequence
 
 HERE = os.path.dirname(os.path.abspath(__file__))
-sys.path.insert(0, os.path.join(HERE, "..", "scripts"))
+sys.path.insert(0, os.path.join(HERE, "..", "trials"))
 from built import parser_of, want_program, WORKBENCH  # noqa: E402
 
 CHILDREN = (1_000, 100_000, 1_000_000)

@@ -18,7 +18,7 @@ case "$#,${1-}" in
     cd "$top/crates/solve_cli"
     exec rt run -- --version
     ;;
-1,--unproved) exec python3 "$top/scripts/keep_tried.py" ;;
+1,--unproved) exec python3 "$top/dev/keep_tried.py" ;;
 esac
 echo "usage: scripts/build.sh [--unproved]" >&2
 exit 2

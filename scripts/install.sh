@@ -87,8 +87,8 @@ commit() {
 pages=$(mktemp -d)
 trap 'rm -rf "$pages"' EXIT
 trap 'exit 1' HUP INT TERM
-python3 "$top/scripts/help_pages.py" "$pages"
-python3 "$top/scripts/command_pages.py" "$pages"
+python3 "$top/dev/help_pages.py" "$pages"
+python3 "$top/dev/command_pages.py" "$pages"
 {
     "$program" --version
     echo "commit $(commit)"
@@ -131,7 +131,7 @@ for name in solve_cli $commands; do
     shown 644 "$pages/_$name" "$zsh/_$name"
 done
 rm -rf -- "$prefix/$share/zarfepoch"
-for file in "$top"/python/zarfepoch/*.py "$top"/python/zarfepoch/py.typed; do
+for file in "$top"/python/src/zarfepoch/*.py "$top"/python/src/zarfepoch/py.typed; do
     put 644 "$file" "$share/zarfepoch/$(basename "$file")"
 done
 echo "$prefix/$share/zarfepoch"

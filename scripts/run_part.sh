@@ -1,5 +1,5 @@
 #!/bin/sh
-# Searches a part that scripts/split.py wrote, and keeps its answer beside it: that of part-7.dlx in part-7.answer.
+# Searches a part that zarfepoch-split wrote, and keeps its answer beside it: that of part-7.dlx in part-7.answer.
 #
 #     scripts/run_part.sh PART [WORD ..]
 #

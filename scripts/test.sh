@@ -1,5 +1,6 @@
 #!/bin/bash
-# What a merge has to pass: the gate, then each scripts/try_*.py in a short form, mypy, check_pages.py, and draw_layers.py --check.
+# What a merge has to pass: the gate, then the package's tests (python/tests), each trials/try_*.py in a short form, mypy, check_pages.py, and
+# draw_layers.py --check.
 #
 #     scripts/test.sh [--trials]
 #
@@ -7,7 +8,8 @@
 # They take some 370 processor seconds.
 # Where all went well the last line is the gate's own, 'N passed, M failed', or 'test.sh: all trials passed', and the status is 0.
 # Else the last line names what failed, and the status is 1; it is 2 where a word isn't known or a command is missing. It wants the
-# toolchain's command rt, cc, Python and mypy; the gate builds the programs.
+# toolchain's command rt, cc, Python and mypy; the gate builds the programs. The package's tests want pytest and hypothesis, by Debian's own Python if that
+# has them (python3-pytest, python3-hypothesis), else by the first one on the path; and python3-venv and python3-pip, with which they install it.
 set -o pipefail
 unset CDPATH
 case "$*" in
@@ -26,15 +28,23 @@ for command in rt cc python3 mypy; do
     fi
 done
 
+# The Python that has what the package's tests want
+for tester in /usr/bin/python3 python3; do
+    "$tester" -c "import hypothesis, pytest" 2> /dev/null && break
+    tester=
+done
+if [ -z "$tester" ]; then
+    echo "test.sh: there is no Python with pytest and hypothesis; Debian's packages are python3-pytest and python3-hypothesis" >&2
+    exit 2
+fi
+
 # The words of a script's short form; none where it takes seconds anyway.
 short_form() {
     case "$1" in
     try_audit.py) echo --changes 20 --runs 1 ;;
-    try_explain.py) echo --files 200 ;;
-    try_bugs.py | try_found.py | try_memory.py | try_shortage.py | try_split.py) echo --short ;;
+    try_bugs.py | try_found.py | try_memory.py | try_shortage.py) echo --short ;;
     try_search.py) echo 100 ;;
     try_states.py) echo --problems 4000 ;;
-    try_why_none.py) echo 30 ;;
     try_simulate.py) echo 1 ;;
     try_solve.py) echo --times 1 --audit ;;
     try_strangers.py) echo --times 1 ;;
@@ -48,6 +58,7 @@ try() {
     {
         echo "== $name ${*:2}"
         case "$1" in
+        python/tests/*.py) "$tester" -m pytest -q -p no:cacheprovider "$@" ;;
         *.py) python3 "$@" ;;
         *) "$@" ;;
         esac || echo " $name" >> "$room/failed"
@@ -75,8 +86,8 @@ if [ $# -eq 0 ] && ! rt ci 2>&1 | tee "$log"; then
 fi
 begun=$SECONDS
 # (those that take longest first, so that none of them is left over at the end)
-long=$(printf 'scripts/try_%s.py ' program generate kinds draw timetables)
-for path in $long scripts/try_*.py; do
+long="trials/try_program.py $(printf 'python/tests/test_%s.py ' package generate kinds draw timetables)"
+for path in $long python/tests/test_*.py trials/try_*.py; do
     name=$(basename "$path")
     [ -e "$room/$name.said" ] && continue
     : > "$room/$name.said"
@@ -85,8 +96,8 @@ for path in $long scripts/try_*.py; do
     begin "$path" $(short_form "$name")
 done
 begin mypy
-begin scripts/check_pages.py
-begin scripts/draw_layers.py --check
+begin dev/check_pages.py
+begin dev/draw_layers.py --check
 wait
 echo "test.sh: the trials took $((SECONDS - begun)) s"
 failed=$(tr -d '\n' < "$room/failed")

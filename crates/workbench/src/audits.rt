@@ -8,7 +8,7 @@
 //!   and one entry, the event of which doesn't happen, or happens twice, or after the next one, or delivers a packet with another
 //!   bit, or one of another entry. The site's events are played once more with the change, without those that the core refuses then.
 //!   Each change has a line `change KIND PLACE`, the book of the site from this place on, and what an audit finds with this book in
-//!   place of the site's. A change that can't be made at the entry is passed over. `scripts/try_audit.py` reads all this.
+//!   place of the site's. A change that can't be made at the entry is passed over. `trials/try_audit.py` reads all this.
 //! - `time`: it prints how many books there are, how many entries they have, how many nanoseconds an audit of them takes, and what it
 //!   finds. `nothing`: it does nothing with them. `bench/audits.py` reads both.
 

@@ -3,7 +3,7 @@
 //! It draws so many problems, with secondary items and colours among them. Of each it searches several random prefixes, with as much fuel as
 //! there are visits, with one less, and with fuel that is drawn, by links and over sets, with room for a few states or for many; what is
 //! kept of one search serves the next. Outcome and first cover have to be those of the plain search. It prints how many searches there
-//! were, how many visits, and how many searches differ. `scripts/try_states.py` reads it.
+//! were, how many visits, and how many searches differ. `trials/try_states.py` reads it.
 
 mod compare;
 

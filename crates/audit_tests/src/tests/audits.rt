@@ -1,5 +1,5 @@
 //! Books of runs, and what an audit finds, also where memory is refused. These tests refuse none themselves: it has to be refused
-//! from outside, for which `scripts/refuse_growth.c` is meant.
+//! from outside, for which `trials/refuse_growth.c` is meant.
 
 ghost use Rattle.std.specs.Prelude.{◌≡◌, ◌≤◌, true};
 ghost use Rattle.run_book.specs.Books.{are_distinct};

@@ -1,6 +1,6 @@
 //! Clauses where memory is refused: nothing is learned, and the same step then comes to what the script says.
 //!
-//! No memory is refused here: `scripts/try_memory.py` does it from outside, and sees by marks where a step begins and ends.
+//! No memory is refused here: `trials/try_memory.py` does it from outside, and sees by marks where a step begins and ends.
 
 use super::steps::{SCRIPTS, Step, problem_of};
 use growth_marks::{begin, end};

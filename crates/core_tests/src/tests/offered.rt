@@ -1,5 +1,5 @@
 //! Packets that are offered to all sites at each moment of runs of two nodes. What comes of them was worked out by a model of the protocol
-//! in `scripts/try_packets.py`, which shares no code with the crates.
+//! in `trials/try_packets.py`, which shares no code with the crates.
 
 ghost use Rattle.std.specs.Prelude.{◌≡◌};
 

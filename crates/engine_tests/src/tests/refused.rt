@@ -1,7 +1,7 @@
 //! Engines where memory is refused: the fault is `Memory`, nothing is written, and with a new source and sink the engine writes what
 //! the row says.
 //!
-//! No memory is refused here: `scripts/try_memory.py` does it from outside, and marks show it where an engine begins and ends.
+//! No memory is refused here: `trials/try_memory.py` does it from outside, and marks show it where an engine begins and ends.
 
 ghost use Rattle.std.specs.Prelude.{◌≤◌};
 

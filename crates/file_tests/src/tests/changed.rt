@@ -1,5 +1,5 @@
 //! Texts with a byte changed, a byte more, or an end too soon. How many of them are read so, and how many refused, was counted by
-//! `scripts/try_bytes.py`, which has readers of its own.
+//! `trials/try_bytes.py`, which has readers of its own.
 
 use super::texts::problem_of;
 use cover_problem::{Answer, Numbers, Problem};

@@ -1,4 +1,4 @@
-//! Searches of small problems with colours: `scripts/plain_search.py` gave the visits and the first covers.
+//! Searches of small problems with colours: `trials/plain_search.py` gave the visits and the first covers.
 
 use super::search::ends_so;
 

@@ -1,5 +1,5 @@
 //! Searches with each fuel: by links, over sets of live options, and over the tables that suit the problem.
-//! `scripts/plain_search.py` gave the visits and the first covers.
+//! `trials/plain_search.py` gave the visits and the first covers.
 
 use super::search::finds;
 use super::texts::problem_of;

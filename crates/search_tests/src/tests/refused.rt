@@ -1,6 +1,6 @@
 //! Searches where memory is refused: the prefix comes back, and the same search then comes to what the row says.
 //!
-//! No memory is refused here: `scripts/try_memory.py` does it from outside, and sees by marks where a search begins and ends.
+//! No memory is refused here: `trials/try_memory.py` does it from outside, and sees by marks where a search begins and ends.
 
 use super::search::{PREFIXES, SEARCHES, outcome_of};
 use super::texts::{LETTERS, problem_of};

@@ -1,4 +1,4 @@
-//! The search against a plain program: `scripts/plain_search.py` gave the visits and the first covers.
+//! The search against a plain program: `trials/plain_search.py` gave the visits and the first covers.
 
 use super::links::choose;
 use super::texts::{LETTERS, problem_of};

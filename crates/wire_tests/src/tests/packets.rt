@@ -287,7 +287,7 @@ fn beginnings_are_short(rt: HostRuntime) {
 type Counts = [usize; 7];
 
 /// What is counted of a packet's beginnings, of its bytes with one more behind them, and of its changes of one byte. A reader of
-/// `scripts/try_bytes.py` counted the same.
+/// `trials/try_bytes.py` counted the same.
 static COUNTS: [(&[u8], Counts); 12] = [
     (GIVE, [3088, 282, 510, 254, 246, 1760, 260]),
     (RETURN_EMPTY, [3088, 24, 510, 254, 247, 1763, 258]),

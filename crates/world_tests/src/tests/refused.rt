@@ -1,7 +1,7 @@
 //! Worlds where memory is refused: a step then changes nothing, and comes to the same when it is taken again; a run stops, and its other
 //! events then come to the same end.
 //!
-//! No memory is refused here: `scripts/try_memory.py` does it from outside, and sees by marks where a step or a run begins and ends.
+//! No memory is refused here: `trials/try_memory.py` does it from outside, and sees by marks where a step or a run begins and ends.
 
 use super::runs::{
     FOUR_WAYS, ITEM, LATE_RESULT, LETTERS, NO_COVER, OVERTAKEN, ROOT, ROOT_REDONE, STOLEN,

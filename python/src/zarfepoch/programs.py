@@ -1,0 +1,50 @@
+"""Where the program solve_cli is: what ZARFEPOCH names in the environment, else what is on the path, else what was built in this clone, with proofs or,
+if there is no other, without (scripts/build.sh --unproved)."""
+from __future__ import annotations
+
+import os
+import shutil
+from typing import Optional
+
+from .errors import NoProgram
+
+CLONE = os.path.join(os.path.dirname(os.path.abspath(__file__)), "..", "..", "..")
+BUILT_HERE, UNPROVED_HERE = os.path.join(CLONE, "crates", "solve_cli", "out", "solve_cli"), os.path.join(CLONE, "unproved", "solve_cli")
+
+
+def is_program(path: str) -> bool:
+    """Whether there is a file that may be run."""
+    return os.path.isfile(path) and os.access(path, os.X_OK)
+
+
+def known_program() -> Optional[str]:
+    """The program's path, or None where there is none."""
+    named = os.environ.get("ZARFEPOCH")
+    places: list[Optional[str]] = [named] if named else [shutil.which("solve_cli"), BUILT_HERE, UNPROVED_HERE]
+    return next((os.path.abspath(path) for path in places if path and is_program(path)), None)
+
+
+def tied(words: list[str]) -> list[str]:
+    """The words of a command that ends with the process that starts it, however that ends; where the system has no means for it, as they are."""
+    setpriv = shutil.which("setpriv")
+    return [setpriv, "--pdeathsig", "KILL", "--", *words] if setpriv else words
+
+
+def own_words(why: str) -> str:
+    """What the program says of a run without an answer, without the commands that it would advise and the package hasn't."""
+    return why.removeprefix("ended: ").replace(", or solve", "").replace(", or answer", "").replace(", or --unlimited", "")
+
+
+def missing_program(named: Optional[str]) -> str:
+    """What is said where there is no program, at the place that is named, if one is."""
+    where = named or "solve_cli, neither named by ZARFEPOCH nor on the path"
+    return (f"there is no program {where}; at the top of a clone (cd crates/solve_cli && rt run -- --version) builds "
+            "crates/solve_cli/out/solve_cli, and ZARFEPOCH may name that; scripts/build.sh --unproved leaves one without proofs in some minutes")
+
+
+def find_program() -> str:
+    """The program's path; `NoProgram` where there is none."""
+    path = known_program()
+    if path is None:
+        raise NoProgram(missing_program(os.environ.get("ZARFEPOCH")))
+    return path

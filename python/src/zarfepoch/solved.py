@@ -1,0 +1,305 @@
+"""Solves a puzzle or plans a school at once: reads it, asks the program, draws the answer, and says whether it is the only one.
+
+    zarfepoch KIND .. [--out FILE.svg] [--seconds N]
+    zarfepoch --json FILE [--seconds N]
+
+The kinds are %KINDS%;
+`zarfepoch KIND --help` says what each reads, as in
+
+    zarfepoch sudoku puzzle.txt                     draws the answer in the terminal
+    zarfepoch killer killer.txt --out killer.svg    draws it as a picture
+    zarfepoch timetable school.csv --rules rules.csv --csv plan.csv
+                                                    plans a school, and writes the plan as a table too; --plan NAME .. draws the plans of these alone,
+                                                    --grid WEEK.csv writes them as people read them, and --out-dir FOLDER each into files of its own
+
+Of each kind but timetables it is said whether the answer is the only one; --one leaves that out. Where there is no answer, it says why, if the
+program finds a reason without a search, and what may be mistyped: the puzzle is tried without each of its digits, sums or signs, for N seconds in all
+(5 where none are told). With --seconds N each search ends after N seconds; without, the first goes on until it is decided, and the one for another
+answer for 10 seconds. --all draws each solution, and --count says how many there are, or how many were found in N seconds. A timetable is looked for
+by many short searches first, since one in which the first choices are wrong seldom ends. --problem FILE keeps the problem that the program gets.
+
+With --json FILE an object with "options", and perhaps "primary", all other items where it isn't there, and "secondary" is read, in whose options a list of
+two is an item with its colour; the answer is printed as a list of places, or null. Items and colours are texts or numbers. FILE may be -, the
+standard input.
+
+The exit status is 0 where there is an answer, 1 where there is none, 2 for a mistake on the command line or where there is no program, 3 where
+something can't be read, meant or written, and 4 where there is no answer in time; with --json 3 for that too.
+"""
+from __future__ import annotations
+
+import argparse
+import contextlib
+import os
+import sys
+import textwrap
+import threading
+import time
+from argparse import Namespace
+from collections import Counter
+from collections.abc import Iterator
+from typing import Optional
+
+from . import generate
+from .all_covers import Covers
+from .another import free_name, others_of
+from .answers import Answered, answered, planned, TRY_SECONDS
+from .command_words import as_called, parser_of
+from .cover_files import complain, Problem, put, read_audited, read_problem, stop
+from .draw import add_tables, planned as planned_picture, write_out, write_plans
+from .errors import NoProgram, OutOfMemory, ProgramError, TimeIsUp
+from .even_room import any_reason
+from .fault_words import plural
+from .impossible import core_of, core_words
+from .mistyped import SECONDS as CHANGE_SECONDS, told_changes
+from .picture_base import Kind
+from .picture_kinds import picture_of
+from .problems import Asked
+from .programs import find_program, own_words
+from .puzzle_texts import Change, PlainlyNone, Puzzle
+from .search_parts import Tree
+from .svg_paper import Paper
+from .timetable_plans import Plan, read_plan
+from .timetables import Timetable
+from .weeks import in_order
+from .why_none import in_words, told_lines
+
+# a lesson by its title and its classes, in a period
+Time = tuple[tuple[str, frozenset[str]], str]
+
+NO_ANSWER = 4
+# how long another answer is looked for where no time is told
+OTHER_SECONDS = 10.0
+# every so many seconds it is said that a search goes on, and so many lessons that moved are told
+WAITING, MOST_MOVED = 10.0, 20
+
+
+def command_line() -> argparse.ArgumentParser:
+    parser = parser_of((__doc__ or "").replace("%KINDS%", textwrap.fill(generate.kinds_listed(), 130)))
+    parser.add_argument("--json", metavar="FILE", help="a problem in JSON, in place of a kind")
+    parser.add_argument("--seconds", metavar="N", type=positive, help="how long a search may take (no limit where it isn't given)")
+    for words in generate.kinds_of(parser):
+        words.add_argument("--out", metavar="FILE.svg", help="where the picture is written, - for the standard output")
+        if not words.prog.endswith("timetable"):
+            which = words.add_mutually_exclusive_group()
+            which.add_argument("--one", action="store_true", help="don't ask whether the answer is the only one")
+            which.add_argument("--all", action="store_true", help="draw each solution, in the terminal")
+            which.add_argument("--count", action="store_true", help="say how many solutions there are, and draw none")
+        words.add_argument("--problem", metavar="FILE.dlx", help="where the problem is written that the program gets")
+        words.add_argument("--seconds", metavar="N", type=positive, default=argparse.SUPPRESS, help="how long a search may take")
+        if words.prog.endswith("timetable"):
+            add_tables(words)
+            words.add_argument("--plan", metavar="NAME", nargs="+", action="extend", default=[], help="whose plans are drawn, as zarfepoch-draw does")
+    return parser
+
+
+def positive(text: str) -> float:
+    """A number above 0 on the command line."""
+    number = float(text)
+    if not number > 0:
+        raise ValueError
+    return number
+
+
+def asked_of_school(program: str, timetable: Timetable, given: Namespace) -> Answered:
+    """The program's answer to a timetable: for a third of the time, or two where a plan is kept, or by a part of the school that has none, or for the rest
+    of the time."""
+    began, limit = time.monotonic(), given.seconds or 3 * TRY_SECONDS
+    found = planned(program, timetable, bool(given.keep), (2 if given.keep else 1) * limit / 3)
+    if (found is None or found.status == 1) and timetable.school:
+        # (where it is known that there is none, all of the time is for the reason)
+        core = core_of(program, timetable.school, limit - (time.monotonic() - began) if found else limit / 3, found is not None)
+        if core:
+            print("There is no timetable. " + "\n".join(core_words(timetable.school, core)))
+            return Answered(1, b"none\n", "")
+    answer = found or answered(program, timetable.text(), given.seconds and max(1.0, given.seconds - (time.monotonic() - began)))
+    if answer.status == 1:
+        print("There is no timetable.")
+    return answer
+
+
+@contextlib.contextmanager
+def told_waiting() -> Iterator[None]:
+    """Says every ten seconds that a search goes on, and at the end how long it took."""
+    began, over = time.monotonic(), threading.Event()
+
+    def tell() -> None:
+        while not over.wait(WAITING):
+            complain(f"still looking, for {time.monotonic() - began:.0f} seconds now")
+
+    thread = threading.Thread(target=tell, daemon=True)
+    thread.start()
+    try:
+        yield
+    finally:
+        over.set()
+        thread.join()
+    if time.monotonic() - began >= WAITING:
+        complain(f"this took {time.monotonic() - began:.0f} seconds")
+
+
+def asked(program: str, puzzle: Puzzle, given: Namespace) -> Answered:
+    """The program's answer; ends the command where there is none in time, or the program fails."""
+    with told_waiting():
+        found = asked_of_school(program, puzzle, given) if isinstance(puzzle, Timetable) else answered(program, puzzle.text(), given.seconds)
+    if found.status == 4:
+        stop(f"no answer: {own_words(found.why)}" if found.why else "no answer", NO_ANSWER)
+    if not (found.status == 0 and found.text.startswith(b"cover ") or (found.status, found.text) == (1, b"none\n")):
+        stop(f"the program {program} ended with status {found.status}, and wrote no answer" + (f": {found.why}" if found.why else ""), 3)
+    if found.why:
+        complain(found.why)
+    return found
+
+
+def only_words(program: str, problem: Problem, answer: bytes, seconds: Optional[float]) -> str:
+    """Whether an answer is the only one, in a sentence."""
+    chosen = [problem.options[place].words for _, place in read_audited(answer, problem).chosen]
+    text, too_large = others_of(problem, [chosen], free_name(problem, b"other"))
+    if too_large:
+        return f"Whether it is the only solution can't be asked: that problem would have {too_large}."
+    limit = seconds or OTHER_SECONDS
+    found = answered(program, text, limit)
+    told = {0: "There is another solution; --all draws each.", 1: "It is the only solution."}
+    return told.get(found.status, f"Whether it is the only solution wasn't decided in {limit:g} second{'s' * (limit != 1)}; --seconds N gives more.")
+
+
+def draw(given: Namespace, picture: Kind, title: str) -> None:
+    """Draws an answer in the terminal, or as a picture and as a table where the command line wants them."""
+    if given.out:
+        paper = Paper(title)
+        picture.draw(paper)
+        write_out(given.out, paper.svg())
+    if given.kind == "timetable":
+        write_plans(given, picture, title)
+        if given.out_dir or "-" in (given.csv, given.grid):
+            return
+    if not given.out:
+        print("\n".join(picture.text()))
+
+
+def tell_none(program: str, text: bytes, problem: Problem) -> None:
+    """Says that there is no solution, and why, where that takes no search."""
+    print("There is no solution.")
+    reason = any_reason(program, text, problem)
+    if reason and reason.holds(problem):
+        print("\n".join(told_lines(problem, reason.words(problem, in_words(problem)))))
+
+
+def tell_changes(program: str, changes: list[Change], seconds: Optional[float]) -> None:
+    """Says after which small changes of the puzzle there is a solution: one of these may be what is mistyped."""
+    sys.stdout.flush()
+    for line in told_changes(program, changes, seconds or CHANGE_SECONDS):
+        print(line)
+
+
+def solved(program: str, puzzle: Puzzle, given: Namespace) -> int:
+    """Answers one problem and draws it; the exit status."""
+    text = puzzle.text()
+    problem = read_problem(text)
+    if getattr(given, "all", False) or getattr(given, "count", False):
+        return listed(program, puzzle, problem, given)
+    found = asked(program, puzzle, given)
+    if found.status == 1:
+        if not isinstance(puzzle, Timetable):
+            tell_none(program, text, problem)
+            tell_changes(program, puzzle.changes, given.seconds)
+        return 1
+    answer = read_audited(found.text, problem)
+    picture = picture_of(problem, [problem.options[place] for _, place in answer.chosen], False)
+    draw(given, planned_picture(picture, getattr(given, "plan", [])), puzzle.comments[0])
+    if isinstance(puzzle, Timetable) and puzzle.school and given.keep:
+        complain(kept_words(puzzle, found.text, read_plan(given.keep, puzzle.school)))
+    if not isinstance(puzzle, Timetable) and not given.one and given.out != "-":
+        sys.stdout.flush()
+        print(only_words(program, problem, found.text, given.seconds))
+    return 0
+
+
+def listed(program: str, puzzle: Puzzle, problem: Problem, given: Namespace) -> int:
+    """Draws or counts all solutions of a puzzle; the exit status."""
+    if given.out:
+        stop("--out draws one solution, so it doesn't go with --all and --count")
+    tree, count, until = Tree(problem), 0, None if given.seconds is None else time.monotonic() + given.seconds
+    found = Covers(tree, lambda prefix: Asked(program, tree, prefix)).each(given.seconds)
+    try:
+        with contextlib.closing(found):
+            for count, cover in enumerate(found, 1):
+                if given.all:
+                    print("\n".join(picture_of(problem, [problem.options[place] for place in sorted(cover)], False).text()), end="\n\n", flush=True)
+                if until is not None and time.monotonic() > until:
+                    raise TimeIsUp
+    except (ProgramError, OutOfMemory) as why:
+        stop(why, 3)
+    except TimeIsUp:
+        print(f"There {'are' if count != 1 else 'is'} at least {plural(count, 'solution')}: the time was over before the end.")
+        return 0 if count else NO_ANSWER
+    if not count:
+        tell_none(program, puzzle.text(), problem)
+        tell_changes(program, puzzle.changes, given.seconds)
+        return 1
+    print(f"There {'are' if count != 1 else 'is'} {plural(count, 'solution')}.")
+    return 0
+
+
+def kept_words(timetable: Timetable, answer: bytes, plan: Plan) -> str:
+    """How many times of lessons stay in their periods, whichever of a lesson's times each is, and which lessons moved."""
+    lines = set(answer.decode("utf-8").splitlines()[1:])
+    chosen = [one for one in timetable.ranked if one.lessons and " ".join(one.option) in lines]
+    lessons = [timetable.lessons[name] for one in chosen for name in one.lessons]
+    found = Counter(zip(((lesson.title, frozenset(lesson.classes)) for lesson in lessons), (period for one in chosen for period in one.begins)))
+    own = {(lesson.title, frozenset(lesson.classes)) for lesson in timetable.lessons.values()}
+    before = Counter((lesson, place.period) for lesson, places in plan.items() for place in places if lesson in own)
+    staying = f"{sum((found & before).values())} of {sum(found.values())} times of lessons stay in their periods"
+    return "\n".join([staying, *moved_lines(before - found, found - before)])
+
+
+def moved_lines(left: Counter[Time], taken: Counter[Time]) -> list[str]:
+    """For each lesson that moved a line with the periods that it left, and those that it has in their place."""
+    lessons = list(dict.fromkeys(lesson for lesson, _ in [*taken.elements(), *left.elements()]))
+    lines = []
+    for title, classes in lessons:
+        was, has = (in_order([period for lesson, period in some.elements() if lesson == (title, classes)]) for some in (left, taken))
+        change = f"from {' '.join(was)} to {' '.join(has)}" if was and has else f"new at {' '.join(has)}" if has else f"no longer at {' '.join(was)}"
+        lines.append(f"  {title}{' of ' + '+'.join(sorted(classes)) if classes else ''}: {change}")
+    return lines[:MOST_MOVED] + ([f"  and {len(lines) - MOST_MOVED} more lessons"] if len(lines) > MOST_MOVED else [])
+
+
+def in_parts(given: Namespace, number: int, count: int) -> Namespace:
+    """What the command line wants of one of several parts: files have its number in their names."""
+    if count == 1:
+        return given
+    own = Namespace(**vars(given))
+    for name in ("out", "csv", "grid", "out_dir", "problem"):
+        path = getattr(given, name, None)
+        if path and path != "-":
+            base, ending = os.path.splitext(path.rstrip("/"))
+            setattr(own, name, f"{base}-{number}{ending}")
+    return own
+
+
+def solve_kind(given: Namespace, words: list[str]) -> int:
+    """Answers what a kind and its words ask for; the exit status."""
+    if [getattr(given, name, None) for name in ("out", "csv", "grid")].count("-") > 1:
+        stop("- is the standard output, which takes one of picture and tables")
+    try:
+        program = find_program()
+    except NoProgram as why:
+        stop(why)
+    try:
+        found = generate.problems_of(given, words)
+    except PlainlyNone as why:
+        tell_changes(program, why.changes, given.seconds)
+        raise
+    statuses = []
+    for number, puzzle in enumerate(found, 1):
+        own = in_parts(given, number, len(found))
+        if own.problem:
+            try:
+                put(own.problem, puzzle.text().decode())
+            except OSError as why:
+                stop(f"{own.problem} can't be written: {why.strerror}", 3)
+        statuses.append(solved(program, puzzle, own))
+    return max(statuses)
+
+
+def kind_missing() -> str:
+    return as_called("a KIND is missing, as in: zarfepoch sudoku FILE; zarfepoch-generate --help describes all of them")
