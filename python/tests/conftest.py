@@ -5,7 +5,7 @@ import os
 
 import pytest
 
-from built import SOLVE_CLI, TOP, path_of, want_program
+from built import SOLVE_CLI, TOP, path_of
 
 SRC = os.path.join(TOP, "python", "src")
 
@@ -18,8 +18,8 @@ def pytest_addoption(parser: pytest.Parser) -> None:
 def pytest_configure(config: pytest.Config) -> None:
     """The program and the package for all that a test starts."""
     program = str(config.getoption("--program"))
-    if not config.getoption("--collect-only"):
-        want_program(program)
+    if not config.getoption("--collect-only") and not os.access(program, os.X_OK):
+        raise pytest.UsageError(f"there is no program {program}; at the top of the repository scripts/build.sh builds it")
     os.environ["ZARFEPOCH"] = program
     os.environ["PYTHONPATH"] = SRC
 

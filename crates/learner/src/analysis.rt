@@ -122,7 +122,6 @@ impl Analysis {
         trail: &Trail,
         store: &mut Store,
         heap: &mut Heap,
-        conflict: u64,
     ) -> Result<Packed, AllocError> {
         let last = trail.level();
         for literal in trail.literals().iter().rev() {
@@ -136,7 +135,7 @@ impl Analysis {
                 return Ok(*literal);
             }
             if let Cause::Clause(number) = step.cause {
-                store.touch(number, conflict);
+                store.touch(number);
             }
             self.note(trail, option)?;
             write_row(layout, store, step.cause, *literal, &mut self.row)?;
@@ -153,13 +152,12 @@ impl Analysis {
         store: &mut Store,
         heap: &mut Heap,
         falsified: Cause,
-        conflict: u64,
     ) -> Result<(), AllocError> {
         self.clear();
         self.learned.push(Packed::NONE)?;
         write_row(layout, store, falsified, Packed::NONE, &mut self.row)?;
         self.collect(trail, heap)?;
-        let point = self.resolve(layout, trail, store, heap, conflict)?;
+        let point = self.resolve(layout, trail, store, heap)?;
         put(&mut self.learned, 0, point.negated());
         self.stamp_levels(trail);
         self.minimise(layout, trail, store)?;

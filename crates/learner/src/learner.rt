@@ -219,7 +219,6 @@ impl<'a> Learner<'a> {
             &mut self.store,
             &mut self.heap,
             falsified,
-            self.figures.conflicts,
         )?;
         hint_learned(
             &self.analysis,
@@ -256,7 +255,7 @@ impl<'a> Learner<'a> {
         else {
             return Ok(false);
         };
-        let number = self.store.add(self.analysis.learned(), place, glue, self.figures.conflicts)?;
+        let number = self.store.add(self.analysis.learned(), place, glue)?;
         self.watches.reserve(self.store.bound())?;
         watch_first_two(&self.store, &mut self.watches, number);
         self.now.set(&self.layout, first, Cause::Clause(number));
@@ -300,6 +299,7 @@ impl<'a> Learner<'a> {
         ensures { self.new ≡ self.old }
     {
         self.figures.conflicts = self.figures.conflicts.wrapping_add(1);
+        self.store.meet(self.figures.conflicts);
         if self.now.trail.level() == 0 {
             return Ok(Some(self.refute(falsified, watch)?));
         }

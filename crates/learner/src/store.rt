@@ -43,6 +43,8 @@ pub struct Store {
     free: Vec<u32>,
     /// How many clauses there are.
     count: usize,
+    /// The number of the present conflict.
+    conflict: u64,
 }
 
 impl Store {
@@ -53,7 +55,13 @@ impl Store {
             literals: Vec::new(alloc),
             free: Vec::new(alloc),
             count: 0,
+            conflict: 0,
         }
+    }
+
+    /// Tells which conflict is met now, by its number: clauses that are touched or added from now on are used in it.
+    pub fn meet(&mut self, conflict: u64) {
+        self.conflict = conflict;
     }
 
     /// Returns how many clauses there are.
@@ -106,33 +114,25 @@ impl Store {
             .get_mut(first..first + clause.length as usize)
     }
 
-    /// Notes that the clause was used in this conflict.
-    pub fn touch(&mut self, number: u32, conflict: u64) {
+    /// Notes that the clause was used in the present conflict.
+    pub fn touch(&mut self, number: u32) {
         let clause = self.clause(number);
+        let used = self.conflict;
         put(
             &mut self.clauses,
             number as usize,
-            Learned {
-                used: conflict,
-                ..clause
-            },
+            Learned { used, ..clause },
         );
     }
 
     /// Adds a clause, and returns its number. The only error is out of memory.
-    pub fn add(
-        &mut self,
-        literals: &[Packed],
-        place: u32,
-        glue: u16,
-        conflict: u64,
-    ) -> Result<u32, AllocError> {
+    pub fn add(&mut self, literals: &[Packed], place: u32, glue: u16) -> Result<u32, AllocError> {
         let clause = Learned {
             first: low_word(self.literals.len()),
             length: low_word(literals.len()),
             place,
             glue,
-            used: conflict,
+            used: self.conflict,
         };
         self.literals.extend_from_slice(literals)?;
         let number = self.free_number()?;
