@@ -44,6 +44,7 @@ pub(crate) fn visit_below_keeping<B: Branching, W: Watch>(
     ensures stopped { (left : ℕ) → result ≡ Visit.Stopped left → W.may_stop ≡ true }
     ensures kept { AreKept (B.choices state.old).problem kept.new }
 {
+    // (for what the getter says: that the problem is lawful)
     state.problem();
     put_prefix(state, prefix);
     visit_keeping(state, fuel, watch, kept)
@@ -145,6 +146,7 @@ fn step_plainly<B: Branching, W: Watch>(
         AreBarren root.problem kept.new.states
         × IsStep W.may_stop root fuel kept.new.entered left (B.choices state.new) result }
 {
+    // (for what the getter says: that the problem is lawful)
     state.problem();
     let depth = state.chosen().len();
     let pause = left.saturating_sub(stretch(watch, kept));
@@ -189,6 +191,7 @@ fn pass<B: Branching>(state: &mut B, item: u16, left: u64, kept: &mut Kept) -> O
         IsEntered root fuel kept.old.entered (B.choices state.old) left →
         IsPassed root fuel kept.new.entered (B.choices state.new) left result }
 {
+    // (for what the getter says: that the problem is lawful)
     state.problem();
     // (before its own visit is taken off, which is one of those that are kept with it)
     kept.note(state.chosen().len(), left);
@@ -258,6 +261,7 @@ fn keep_barren<B: Branching>(state: &B, left: u64, kept: &mut Kept)
         (visits (B.choices state.now).problem (B.choices state.now).chosen + left) →
         AreBarren (B.choices state.now).problem kept.new.states }
 {
+    // (for what the getter says: that the problem is lawful)
     state.problem();
     if let Some(visits) = kept.since(state.chosen().len(), left) {
         kept.keep(state, visits);

@@ -1,7 +1,10 @@
 //! What the searches of a problem keep.
 //!
-//! Which states are kept is decided in three places: `Trials` says at which depths the table is asked, `keep` adds a state that took
-//! `LEAST` visits or more, and the table itself, where two slots are full, lets the one of lesser worth go.
+//! Once all options below a prefix were tried in vain, its state is kept where
+//! - what was left on coming to it is noted: `Trials` says down to which depth the table is asked, and the loop that keeps nothing drops the
+//!   notes behind it. A search without fuel keeps what it looked for on its way, and what another worker found needs no note;
+//! - it took `LEAST_VISITS` or more, those that were skipped counted. Whoever traces a search may say fewer, and so leave a state out;
+//! - it has a key, of the table's width, and the table has slots. Where both of a key's slots are full, the state of lesser worth goes.
 //!
 //! If the room for a table is refused, half of it is tried, and so on down to none: that is no error, since the table only saves time.
 
@@ -18,7 +21,7 @@ use std::alloc::{AllocError, Global};
 use std::marker::Model;
 
 /// The fewest visits of a state that is kept: a smaller one is visited again as fast as it is found.
-const LEAST: u64 = 4;
+pub const LEAST_VISITS: u64 = 4;
 
 /// What the searches of a problem keep: the states that they found barren, and, while one is under way, how much fuel was left when it
 /// came to prefixes of its way.
@@ -155,7 +158,7 @@ impl Kept {
         ensures room { bytes_of self.new.states.most self.new.states
             ≡ bytes_of self.old.states.most self.old.states }
     {
-        if visits < LEAST {
+        if visits < LEAST_VISITS {
             return;
         }
         if !state.write_key(&mut self.key) {

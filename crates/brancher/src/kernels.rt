@@ -11,7 +11,7 @@ ghost use Rattle.brancher.specs.Visit.{IsVisit};
 use crate::keeping::visit_below_keeping;
 use crate::kept::Kept;
 use crate::kernel::Kernel;
-use crate::learning::learn_barren;
+use crate::shared::keep_shared;
 use crate::tables::Tables;
 use crate::visit::{Visit, visit_below};
 use crate::watch::Watch;
@@ -106,7 +106,7 @@ impl<'a> Kernel<'a> {
     }
 
     /// Puts a prefix in place of what is chosen, below which there is no cover, and keeps that, and how many visits it takes.
-    pub(crate) fn learn(&mut self, prefix: &[u16], count: u64, kept: &mut Kept)
+    pub(crate) fn keep_shared(&mut self, prefix: &[u16], count: u64, kept: &mut Kept)
         requires prefix { is_prefix (choices_in self.old).problem prefix.now ≡ true }
         requires barren { first (choices_in self.old).problem prefix.now ≡ None }
         requires count { visits (choices_in self.old).problem prefix.now ≡ count }
@@ -115,8 +115,8 @@ impl<'a> Kernel<'a> {
         ensures kept { AreKept (choices_in self.old).problem kept.new }
     {
         match self {
-            Kernel::Links(links) => learn_barren(links, prefix, count, kept),
-            Kernel::Rows(rows) => learn_barren(rows, prefix, count, kept),
+            Kernel::Links(links) => keep_shared(links, prefix, count, kept),
+            Kernel::Rows(rows) => keep_shared(rows, prefix, count, kept),
         }
     }
 

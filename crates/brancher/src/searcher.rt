@@ -262,14 +262,14 @@ impl<'a> Searcher<'a> {
 
     /// Keeps that there is no cover below a prefix, and how many visits a search of it takes, as if it had been searched. It does nothing where
     /// no states are kept.
-    pub fn learn(&mut self, prefix: &[u16], count: u64)
+    pub fn keep_shared(&mut self, prefix: &[u16], count: u64)
         requires prefix { is_prefix self.old.problem prefix.now ≡ true }
         requires barren { first self.old.problem prefix.now ≡ None }
         requires count { visits self.old.problem prefix.now ≡ count }
         ensures { self.new.problem ≡ self.old.problem }
     {
         if let Some(kept) = &mut self.kept {
-            self.kernel.learn(prefix, count, kept);
+            self.kernel.keep_shared(prefix, count, kept);
         }
     }
 

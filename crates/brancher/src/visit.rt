@@ -38,6 +38,7 @@ pub fn visit_below<B: Branching, W: Watch>(
         (B.choices state.new).chosen result }
     ensures stopped { (left : ℕ) → result ≡ Visit.Stopped left → W.may_stop ≡ true }
 {
+    // (for what the getter says: that the problem is lawful)
     state.problem();
     put_prefix(state, prefix);
     // (0 is no pause: where nothing is left, the fuel is spent)

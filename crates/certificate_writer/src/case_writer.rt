@@ -2,6 +2,7 @@
 
 use crate::reason_lines::push_reason;
 use crate::text::{head_of, push_number, send, send_if_many};
+use brancher::LEAST_VISITS;
 use cover_problem::Problem;
 use cover_reasons::Reason;
 use decider::Trace;
@@ -13,11 +14,8 @@ use std::io;
 /// How many kept cases whoever checks the lines has to hold at most: about as many as the search's own table has room for.
 const MOST_HELD: u32 = 1 << 22;
 
-/// A case of fewer visits isn't kept: its line would be as long as the lines that it saves.
-const LEAST_VISITS: u64 = 4;
-
-/// So much greater is a case's number in the search's table, which takes none that is less.
-const TABLE_OFFSET: u64 = 4;
+/// So much greater is a case's number in the search's table, which takes none that is less than `LEAST_VISITS`.
+const TABLE_OFFSET: u64 = LEAST_VISITS;
 
 /// Writes the lines of a certificate by cases while a search goes on. A fault is kept until the end: the search goes on, since a cover needs no
 /// certificate.
@@ -166,6 +164,7 @@ impl<W: Sink + Drop> Trace for CaseWriter<W> {
 
     #[inline(always)]
     fn keeps(&mut self, chosen: usize, visits: u64) -> u64 {
+        // (a case of fewer visits would have a line as long as the lines that it saves)
         if visits < LEAST_VISITS {
             return 0;
         }

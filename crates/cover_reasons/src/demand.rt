@@ -4,8 +4,8 @@ ghost use Rattle.std.specs.Prelude.{◌≡◌};
 
 use crate::bits::Bits;
 use crate::neighbours::{Neighbours, empty_sets};
-use crate::row::Row;
 use cover_problem::Problem;
+use fractional_room::Row;
 use std::alloc::{AllocError, Global};
 
 /// Of each primary item how many items it needs, and which ones.

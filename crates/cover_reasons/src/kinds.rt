@@ -4,8 +4,8 @@ ghost use Rattle.std.specs.Prelude.{◌≡◌};
 
 use crate::bits::Bits;
 use crate::neighbours::Neighbours;
-use crate::row::Row;
 use cover_problem::Problem;
+use fractional_room::Row;
 use std::alloc::{AllocError, Global};
 
 // (half of the greatest: more than half of the primary items beside either one are beside both)

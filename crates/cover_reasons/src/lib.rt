@@ -17,7 +17,6 @@ mod reason_watch;
 mod room;
 mod room_finder;
 mod room_test;
-mod row;
 mod sides;
 mod weights;
 mod weights_finder;

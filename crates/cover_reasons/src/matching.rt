@@ -7,8 +7,8 @@ ghost use Rattle.std.specs.Prelude.{◌≡◌};
 use crate::bits::Bits;
 use crate::demand::Demand;
 use crate::room::Room;
-use crate::row::Row;
 use cover_problem::Problem;
+use fractional_room::Row;
 use std::alloc::{AllocError, Global};
 
 /// How the item is marked from which paths start.

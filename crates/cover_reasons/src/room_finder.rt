@@ -15,9 +15,9 @@ use crate::neighbours::Neighbours;
 use crate::reason_watch::{Endless, ReasonWatch};
 use crate::room::Room;
 use crate::room_test::is_too_little;
-use crate::row::Row;
 use crate::sides::{Sides, are_pairs};
 use cover_problem::Problem;
+use fractional_room::Row;
 use std::alloc::{AllocError, Global};
 
 /// About how many items of options, and words of sets of items, are looked at for kinds: a tenth of a second.

@@ -4,8 +4,8 @@ ghost use Rattle.std.specs.Prelude.{◌≡◌, ◌<◌, length};
 
 use crate::bits::Bits;
 use crate::neighbours::Neighbours;
-use crate::row::Row;
 use cover_problem::Problem;
+use fractional_room::Row;
 use std::alloc::{AllocError, Global};
 
 /// Two sets of primary items, such that each option names one of either, if there are such sets.

@@ -23,6 +23,7 @@ pub fn decide<B: Branching, W: Watch, T: Trace>(
     ensures decided { IsDecided W.may_stop (B.choices state.old) (B.choices state.new) result }
     ensures kept { HaveNoCover (B.choices state.old).problem kept.new.states }
 {
+    // (for what the getter says: that the problem is lawful)
     state.problem();
     // (there is no fuel, so a watch hears what is left of the greatest)
     if kept.is_watch_due(watch) && watch.look(state.chosen(), u64::MAX.saturating_sub(*steps)) {

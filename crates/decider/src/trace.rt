@@ -11,7 +11,7 @@ pub trait Trace {
     fn meets(&mut self, number: u64) -> Option<u64>;
 
     /// Hears that what is left behind so many chosen options has no cover, which took so many visits. Returns the number to keep it with; it
-    /// isn't kept with a number below 4.
+    /// isn't kept with a number below `LEAST_VISITS`.
     fn keeps(&mut self, chosen: usize, visits: u64) -> u64;
 }
 

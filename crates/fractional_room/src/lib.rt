@@ -20,4 +20,5 @@ mod row;
 mod simplex;
 
 pub use rounded::Rounded;
+pub use row::Row;
 pub use simplex::{Progress, Simplex};

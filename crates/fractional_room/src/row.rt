@@ -6,20 +6,21 @@ use std::alloc::{AllocError, Global};
 
 /// Numbers side by side, 0 past the end.
 #[derive(Drop)]
-pub(crate) struct Row {
+pub struct Row {
     numbers: Vec<u16>,
 }
 
 impl Row {
     /// So many zeros; the only error is out of memory.
-    pub(crate) fn zeros(alloc: Global, count: usize) -> Result<Row, AllocError> {
+    pub fn zeros(alloc: Global, count: usize) -> Result<Row, AllocError> {
         Ok(Row {
             numbers: vec![in alloc; 0; count]?,
         })
     }
 
     /// The number at a place, 0 past the end.
-    pub(crate) fn at(&self, place: usize) -> u16 {
+    #[inline(always)]
+    pub fn at(&self, place: usize) -> u16 {
         match self.numbers.get(place) {
             Some(number) => *number,
             None => 0,
@@ -27,14 +28,22 @@ impl Row {
     }
 
     /// Puts a number at a place, if there is one.
-    pub(crate) fn put(&mut self, place: usize, number: u16) {
+    #[inline(always)]
+    pub fn put(&mut self, place: usize, number: u16) {
         if place < self.numbers.len() {
             self.numbers[place] = number;
         }
     }
 
+    /// Puts 0 at each place.
+    pub fn clear(&mut self) {
+        for place in 0..self.numbers.len() {
+            self.numbers[place] = 0;
+        }
+    }
+
     /// The numbers, as a list.
-    pub(crate) fn into_vec(self) -> Vec<u16> {
+    pub fn into_vec(self) -> Vec<u16> {
         let Row { numbers } = self;
         numbers
     }

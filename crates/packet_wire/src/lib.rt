@@ -16,4 +16,4 @@ pub use laws::{each_spelling_is_read, one_packet_of_each_spelling, spellings_are
 pub use packet::{Body, Packet};
 pub use reading::read_packet;
 pub use well_formed::is_well_formed;
-pub use writing::{MAGIC, SECOND_VERSION, VERSION, write_packet};
+pub use writing::{LONGEST_PACKET, MAGIC, SECOND_VERSION, VERSION, write_packet};

@@ -21,7 +21,7 @@ pub const VERSION: u8 = 1;
 pub const SECOND_VERSION: u8 = 2;
 
 /// The most bytes that a packet has: a header, a prefix of 999 options and eight children.
-const MOST_BYTES: usize = 2095;
+pub const LONGEST_PACKET: usize = 2095;
 
 /// Writes a number of one byte.
 #[tactic(auto, unfolding(crate::specs::Spelling::number))]
@@ -235,7 +235,7 @@ fn spelling_of(alloc: Global, packet: &Packet) -> Result<Vec<u8>, AllocError>
     ensures { IfOk result (λ text. text.items ≡ spelling packet.now) }
 {
     // (room for the longest packet, so none of the writes below takes memory)
-    let mut text = Vec::with_capacity(alloc, MOST_BYTES)?;
+    let mut text = Vec::with_capacity(alloc, LONGEST_PACKET)?;
     write_header(&mut text, Kind::of(&packet.body), packet.from, packet.to)?;
     write_body(&mut text, &packet.body)?;
     Ok(text)

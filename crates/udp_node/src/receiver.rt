@@ -10,7 +10,7 @@ use crate::schedule::Schedule;
 use crate::turns::noted;
 use crate::worker::{after, after_refusal};
 use node_core::{Core, Event};
-use packet_wire::{Body, Packet, WireFault, read_packet};
+use packet_wire::{Body, LONGEST_PACKET, Packet, WireFault, read_packet};
 use run_book::{CellName, Run};
 use site_limits::{EndCause, Follower, Gate, Limits, Turn};
 use site_network::{Link, LinkFault};
@@ -20,7 +20,7 @@ use std::thread;
 use std::time::{Clock, Duration};
 
 /// How many bytes a receive takes: one more than the longest packet has, so that a longer datagram is seen.
-const BUFFER: usize = 2096;
+const BUFFER: usize = LONGEST_PACKET + 1;
 
 /// How many strangers' datagrams are passed over before the thread does something else: a flood counts as nothing that came.
 const FLOOD: u32 = 1_024;

@@ -201,7 +201,7 @@ impl<'r, 't, 's, J: Run, C: Core + Drop, N: CellName, H: Gate + Follower, R: Wai
         let keeps = self.searcher.keeps();
         let fuel = search_fuel(keeps, self.limit);
         let (hooks, signals) = (self.actor.shared.context.hooks, self.actor.shared.signals);
-        self.learn();
+        self.keep_shared();
         hooks.begun();
         let length = prefix.as_slice().len();
         let quota = self.pace.quota(length, self.limit);
@@ -234,14 +234,15 @@ impl<'r, 't, 's, J: Run, C: Core + Drop, N: CellName, H: Gate + Follower, R: Wai
     }
 
     /// Keeps what the node's other workers found to have no cover.
-    fn learn(&mut self) {
+    fn keep_shared(&mut self) {
         let exchange = self.actor.shared.exchange;
         for _ in 0..INBOX {
             // (an inbox full at most: others may add to it as fast as it is read, and the job waits)
             let Some(heard) = exchange.hear(self.rt, self.number) else {
                 return;
             };
-            self.searcher.learn(heard.prefix.as_slice(), heard.count);
+            self.searcher
+                .keep_shared(heard.prefix.as_slice(), heard.count);
         }
     }
 

@@ -2,7 +2,7 @@
 //!
 //! Of the bugs of `brancher` that are kept outside the gate, `a_board_of_twelve_by_twelve_is_searched_whole` finds
 //! `nothing_kept_is_found`, and `a_stopped_search_tells_what_it_came_to` finds `visits_are_not_told_of` and `a_watch_waits_for_1024_visits`,
-//! and `what_is_learned_is_not_visited` finds `what_is_learned_is_lost` and `nothing_is_seen_to_be_barren`. Of the bugs of `barren_states` that are
+//! and `what_is_shared_is_not_visited` finds `what_is_shared_is_lost` and `nothing_is_seen_to_be_barren`. Of the bugs of `barren_states` that are
 //! kept outside the gate, `a_board_of_twelve_by_twelve_is_searched_whole` finds `table_never_grows`, and `what_took_many_visits_is_kept` finds
 //! `small_states_stay_longer`.
 
@@ -219,9 +219,9 @@ fn seen<R: Abort>(rt: &R, alloc: Global, tables: &Tables<'_>, visits: Option<u64
     }
 }
 
-/// What a searcher says of the empty prefix once it has learned of it from another one: how many visits a search of it takes, as both say,
+/// What a searcher says of the empty prefix once another one shared it: how many visits a search of it takes, as both say,
 /// and how many it made to see that; none where memory ran out, or one of them sees nothing.
-fn learned(alloc: Global, tables: &Tables<'_>) -> Option<(u64, u64, u64)> {
+fn shared(alloc: Global, tables: &Tables<'_>) -> Option<(u64, u64, u64)> {
     // (both here: what the first one says is what the other one may be told)
     let Ok(mut one) = Searcher::keeping(alloc, tables, ROOM) else {
         return None;
@@ -230,7 +230,7 @@ fn learned(alloc: Global, tables: &Tables<'_>) -> Option<(u64, u64, u64)> {
         return None;
     };
     let count = one.barren_visits(&[], &mut Unwatched)?;
-    other.learn(&[], count);
+    other.keep_shared(&[], count);
     let mut watch = Stopping {
         visits: 10,
         made: 0,
@@ -240,11 +240,11 @@ fn learned(alloc: Global, tables: &Tables<'_>) -> Option<(u64, u64, u64)> {
 }
 
 #[test]
-fn what_is_learned_is_not_visited(rt: HostRuntime) {
+fn what_is_shared_is_not_visited(rt: HostRuntime) {
     for (text, visits, _) in &BARREN {
         let problem = problem_of(&rt, rt.alloc(), text);
         let sets = Tables::of_sets(rt.alloc(), &problem).expect(&rt, "memory");
-        let told = learned(rt.alloc(), &sets);
+        let told = shared(rt.alloc(), &sets);
         assert_eq!(rt; told, Some((*visits, *visits, 1)), "{visits} visits");
     }
 }

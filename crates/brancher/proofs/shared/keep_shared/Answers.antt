@@ -2,7 +2,7 @@ use Rattle.std.proofs.Common.{ℕ, List, ap, arith, length, subst}
 use Rattle.cover_problem.specs.Problem.{Problem}
 use Rattle.brancher.specs.Keeping.{IsKeptOf}
 use Rattle.brancher.proofs.Entering.{barren_kept}
-use Rattle.brancher.proofs.learning.learn_barren.Goals as goal
+use Rattle.brancher.proofs.shared.keep_shared.Goals as goal
 
 pub returns-clause-kept : goal.returns-clause-kept
 returns-clause-kept g c =
