@@ -156,7 +156,7 @@ def answered_certificates(folder: str) -> None:
     letters = os.path.join(TOP, "examples", "letters.dlx")
     expect("a cover has no certificate", is_exact(letters, run("answer", letters, "--certificate", path)[0]) and content(path).startswith(b"none\n"))
     late = run("answer", search_of_years(folder), "--seconds", "1", "--certificate", path)
-    expect("no answer, no certificate", late == (b"no answer\n", b"ended: the time is over: try more --seconds, or solve\n", 4))
+    expect("no answer, no certificate", late == (b"no answer\n", b"ended: the time is over: try more --seconds\n", 4))
     expect("no part of either is left", sorted(os.listdir(folder)) == ["dominoes-18.dlx", "long", "out"] and content(path).startswith(b"none\n"))
     for device in "/dev/full", "/dev/stdout":
         said = run("answer", letters, "--certificate", device)
@@ -363,10 +363,11 @@ def timed(folder: str) -> None:
     path, none = search_of_years(folder), os.path.join(folder, "none")
     with open(none, "w", encoding="ascii") as file:
         file.write("none\n")
-    late = b"ended: the time is over: try more --seconds, or solve\n"
+    late = b"ended: the time is over: try more --seconds, or answer\n"
     for words in (("answer", path), ("alone", path), ("alone", path, "--unlimited"), ("check", path, none), ("check", path, none, "--unlimited")):
         began = time.monotonic()
-        expect(f"a second of {words}", run(*words, "--seconds", "1") == (b"no answer\n", late, 4))
+        why = late.replace(b", or answer", b"") if words[0] == "answer" else late
+        expect(f"a second of {words}", run(*words, "--seconds", "1") == (b"no answer\n", why, 4))
         expect(f"the seconds of {words}", 1 <= time.monotonic() - began < 15)
 
 
@@ -384,7 +385,7 @@ def learning(folder: str) -> None:
         out, errors, status = run("learn", path, "--seconds", "2", "--seed", seed, "--progress")
         lines = errors.decode().splitlines()
         expect(f"two seconds of learn: {status}", (out, status) == (b"no answer\n", 4) and 2 <= time.monotonic() - began < 15)
-        expect("why learn ends", lines[-1:] == ["ended: the time is over: try more --seconds, or solve"])
+        expect("why learn ends", lines[-1:] == ["ended: the time is over: try more --seconds, or answer"])
         expect("a line of learn each second", lines[:-1] and all(map(LEARNED.fullmatch, lines[:-1])))
 
 
@@ -405,7 +406,7 @@ def reasoned(folder: str) -> None:
     for threads in "2", "4":
         out, errors, status = run("answer", path, "--reason", "--progress", "--threads", threads)
         expect(f"a reason by {threads} threads: {out!r} {errors!r}", (out, status) == (run("why", path)[0], 1) and errors.endswith(b"answered by a reason\n"))
-    late = b"ended: the time is over: try more --seconds, or solve\n"
+    late = b"ended: the time is over: try more --seconds\n"
     expect("no reason without an answer", run("answer", search_of_years(folder), "--reason", "--seconds", "1") == (b"no answer\n", late, 4))
     with open("/dev/full", "wb") as full:
         expect("a reason on a full disk", run("answer", letters, "--reason", stdout=full)[1:] == (b"cannot write\n", 3))

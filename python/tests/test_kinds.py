@@ -269,7 +269,7 @@ def test_written(trial: Solving) -> None:
         ("plain by counting", ["sudoku", "11" + "." * 14], 1),
         ("a folder that isn't there", ["queens", "4", "--out", "nothing/x.svg"], 3))
     # (a program that says so: nobody knows a problem of a kind that takes longer than a second on any machine)
-    why = "ended: the time is over: try more --seconds, or solve"
+    why = "ended: the time is over: try more --seconds, or answer"
     late = trial.path("late", f"#!/bin/sh\ncat > /dev/null\necho no answer\necho '{why}' >&2\nexit 4\n")
     os.chmod(late, 0o755)
     status, _, errors = trial.run("langford", "4", "--seconds", "1", program=late)

@@ -1,7 +1,7 @@
 //! How far a run of sites has come, and why it ended.
 
+use crate::end_causes::EndCauses;
 use crate::overcounts::Overcounts;
-use crate::reasons::Reasons;
 use brancher::{Finding, Outcome};
 use cover_problem::Problem;
 use dlx_reader::Sink;
@@ -36,7 +36,7 @@ struct State<'a, E: Sink> {
     /// A site has ended with which the run ends: no line follows.
     is_ended: bool,
     /// Why there is no answer, if the run ends without one.
-    reasons: Reasons,
+    causes: EndCauses,
 }
 
 impl<'a, E: Sink, R: Wait + Clock> FollowedRun<'a, E, R> {
@@ -56,7 +56,7 @@ impl<'a, E: Sink, R: Wait + Clock> FollowedRun<'a, E, R> {
             share: 0,
             jobs: 0,
             is_ended: false,
-            reasons: Reasons::new(),
+            causes: EndCauses::new(),
         };
         Ok(FollowedRun {
             rt,
@@ -154,7 +154,7 @@ impl<'a, E: Sink, R: Wait + Clock> Follower for FollowedRun<'a, E, R> {
     fn ended(&self, _node: u8, end: &SiteEnd) {
         let mut state = self.state.lock(self.rt);
         state.end();
-        state.reasons.hear(end);
+        state.causes.hear(end);
     }
 
     /// Where there is no answer, the reason is written.
@@ -162,7 +162,7 @@ impl<'a, E: Sink, R: Wait + Clock> Follower for FollowedRun<'a, E, R> {
         let mut state = self.state.lock(self.rt);
         state.end();
         if !is_answered {
-            let reason = state.reasons.reason();
+            let reason = state.causes.why();
             state.log.write_reason(reason);
         }
     }

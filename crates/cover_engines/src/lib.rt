@@ -3,12 +3,12 @@
 #![tactic(auto)]
 
 mod audited;
+mod end_causes;
 mod followed_run;
 mod machine;
 mod network;
 mod overcounts;
 mod quiet_run;
-mod reasons;
 mod sockets;
 mod solve;
 

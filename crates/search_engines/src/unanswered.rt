@@ -1,19 +1,21 @@
-//! Why a search by one thread has no answer.
+//! Why a command has no answer.
 
 use crate::engine::EngineEnd;
 use crate::fault::EngineFault;
 use dlx_reader::Sink;
 use std::fmt::{self, Display, Formatter, Write};
 
-/// Why a search by one thread has no answer, with what may give one.
+/// Why a command has no answer, with what may give one.
 #[derive(Clone, Copy, Debug, PartialEq, Eq)]
 pub enum Unanswered {
     /// It has visited as many prefixes as its limit allows.
     Fuel,
     /// It has visited as many prefixes as the greatest limit allows, so there is no more fuel to advise.
     GreatestFuel,
-    /// It has lasted as long as its limit allows.
+    /// It has lasted as long as its limit allows, and `answer` has other ways.
     Time,
+    /// All ways of `answer` have lasted as long as the limit allows.
+    TimeOfAllWays,
     /// What it learned has no more room.
     Room,
     /// A simulated world has published nothing: its last job has visited as many prefixes as the greatest limit allows.
@@ -39,7 +41,8 @@ impl Display for Unanswered {
                 "more visits than can be counted, 2^64 - 1: try answer FILE, or --unlimited, which have no such limit",
             Unanswered::Room =>
                 "the room for what is learned is full: try another --seed, or answer",
-            Unanswered::Time => "the time is over: try more --seconds, or solve",
+            Unanswered::Time => "the time is over: try more --seconds, or answer",
+            Unanswered::TimeOfAllWays => "the time is over: try more --seconds",
             Unanswered::Unpublished => "nothing was published: try alone --unlimited",
         })
     }

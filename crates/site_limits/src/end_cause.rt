@@ -13,6 +13,6 @@ pub enum EndCause {
     Silence,
     /// The run has lasted as long as it may.
     Time,
-    /// Its turns are over, or the site's other threads have ended.
+    /// Its turns are over. So is counted, too, that the site's other threads or another site ended it, or that a thread couldn't be started.
     Turns,
 }

@@ -67,8 +67,8 @@ impl<'a, F: Follower> SearchWatch<'a, F> {
         self.is_called_off
     }
 
-    /// Whether the search may make no more visits. Where it saves many its quota grows.
-    fn is_at_limit(&mut self, left: u64) -> bool {
+    /// Returns whether the search may make no more visits, and doubles its quota first, if it saves many.
+    fn grow_or_stop(&mut self, left: u64) -> bool {
         if self.wait() > 0 {
             return false;
         }
@@ -89,7 +89,7 @@ impl<'a, F: Follower> Watch for SearchWatch<'a, F> {
 
     fn look(&mut self, chosen: &[u16], left: u64) -> bool {
         // (stopped by its quota, not by its site: what it came to so far is posted, so is_called_off stays as it is)
-        if self.is_at_limit(left) {
+        if self.grow_or_stop(left) {
             return true;
         }
         // (a search that keeps no states never calls made: all its visits are in the fuel that is gone)

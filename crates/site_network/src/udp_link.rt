@@ -92,8 +92,8 @@ impl UdpLink {
         self.sockets.sockets.get(usize::from(self.node))
     }
 
-    /// Sends a datagram with its code; whether the system took it whole.
-    fn is_sent(&self, to: u8, bytes: &[u8]) -> bool {
+    /// Sends a datagram with its code, and returns whether the system took it whole.
+    fn send_sealed(&self, to: u8, bytes: &[u8]) -> bool {
         let mut room = [0; LONGEST + CODE];
         let sealed = self.sockets.key.seal(bytes, &mut room);
         match (self.socket(), self.sockets.address(to), sealed) {
@@ -138,7 +138,7 @@ impl Link for UdpLink {
     }
 
     fn send<R: Wait>(&mut self, _rt: &R, to: u8, bytes: &[u8]) -> Result<(), LinkFault> {
-        if self.is_sent(to, bytes) {
+        if self.send_sealed(to, bytes) {
             return Ok(());
         }
         Err(self.fail())

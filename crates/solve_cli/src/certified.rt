@@ -169,7 +169,7 @@ fn tell_why<E: Sink>(
 ) {
     let limits = asked.limits;
     match asked.request.settings.mode {
-        Mode::Answer => tell_unanswered(ended, Unanswered::Time, errors),
+        Mode::Answer => tell_unanswered(ended, Unanswered::TimeOfAllWays, errors),
         Mode::Learn => tell_unanswered(ended, why_unlearned(rt, limits), errors),
         Mode::Alone => tell_unanswered(ended, unanswered(rt, asked.request, limits), errors),
         Mode::Check | Mode::Why | Mode::Simulate | Mode::Solve => {}

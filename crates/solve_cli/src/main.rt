@@ -164,7 +164,7 @@ fn run_answer<R: Threads + Wait + Clock + Sync>(
     let ended = answer_engine(&task, &mut source, &mut sink, log);
     let status = tell_end_of(&ended, request.settings.file, &mut errors);
     source.tell_unknown(status, &mut errors);
-    tell_unanswered(&ended, Unanswered::Time, &mut errors);
+    tell_unanswered(&ended, Unanswered::TimeOfAllWays, &mut errors);
     status
 }
 

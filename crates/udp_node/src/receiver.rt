@@ -101,16 +101,16 @@ impl<L: Link> Receiver<L> {
     }
 
     /// What a turn came to; the thread ends where the site is to end by this cause, or nothing shows the run going on for long.
-    fn or_end(&mut self, turn: Turn, ending: Option<EndCause>, is_empty: bool) -> Turn {
+    fn unless_it_ends(&mut self, turn: Turn, ending: Option<EndCause>, is_empty: bool) -> Turn {
         match ending {
-            Some(cause) if self.schedule.ends(self.now, is_empty) => self.end_by(cause),
-            _ if self.schedule.is_silent(self.now) => self.end_by(EndCause::Silence),
+            Some(cause) if self.schedule.ends(self.now, is_empty) => self.ended_by(cause),
+            _ if self.schedule.is_silent(self.now) => self.ended_by(EndCause::Silence),
             _ => turn,
         }
     }
 
     /// The thread ends by this cause, or the registry's with the search where that is over.
-    fn end_by(&self, cause: EndCause) -> Turn {
+    fn ended_by(&self, cause: EndCause) -> Turn {
         Turn::Ended(if self.schedule.is_over() {
             EndCause::Over
         } else {
@@ -163,8 +163,8 @@ impl<
     /// A turn: greets the registry now and then, receives, and says again what may be lost.
     fn turn(&mut self) -> Turn {
         self.receiver.now = self.receiver.time.look(self.rt);
-        if let Some(cause) = self.ended() {
-            return self.receiver.end_by(cause);
+        if let Some(cause) = self.why_it_ends() {
+            return self.receiver.ended_by(cause);
         }
         let greeted = self.greet();
         if greeted != Turn::Used {
@@ -178,7 +178,7 @@ impl<
     }
 
     /// Why the thread ends before it receives once more, if it does.
-    fn ended(&self) -> Option<EndCause> {
+    fn why_it_ends(&self) -> Option<EndCause> {
         let (shared, schedule) = (self.actor.shared, &self.receiver.schedule);
         let is_spent = schedule.is_spent(self.receiver.now) || schedule.has_announced();
         if is_spent || shared.signals.is_stopped() {
@@ -203,7 +203,7 @@ impl<
     /// Receives once, and looks whether the site can go on. Whether the run is over is read before the receive: the registry announces the
     /// end first, so a receive that is empty after that shows that the node has received it, or never will.
     fn receive(&mut self) -> Turn {
-        let ending = self.actor.shared.ends_by(self.rt);
+        let ending = self.actor.shared.why_to_end(self.rt);
         let mut buffer = [0; BUFFER];
         let received = self.receiver.received(self.rt, &mut buffer);
         let is_empty = received == Ok(None);
@@ -213,7 +213,7 @@ impl<
             Err(LinkFault) => self.receiver.fail(),
         };
         match turn {
-            Turn::Used | Turn::Waited => self.receiver.or_end(turn, ending, is_empty),
+            Turn::Used | Turn::Waited => self.receiver.unless_it_ends(turn, ending, is_empty),
             Turn::Starved | Turn::Ended(_) => turn,
         }
     }

@@ -32,7 +32,7 @@ def tied(words: list[str]) -> list[str]:
 
 def own_words(why: str) -> str:
     """What the program says of a run without an answer, without the commands that it would advise and the package hasn't."""
-    return why.removeprefix("ended: ").replace(", or solve", "").replace(", or answer", "").replace(", or --unlimited", "")
+    return why.removeprefix("ended: ").replace(", or answer", "").replace(", or --unlimited", "")
 
 
 def missing_program(named: Optional[str]) -> str:

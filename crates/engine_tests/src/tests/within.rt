@@ -187,7 +187,12 @@ static UNANSWERED: [(u8, Unanswered, &str); 7] = [
     (
         4,
         Unanswered::Time,
-        "ended: the time is over: try more --seconds, or solve\n",
+        "ended: the time is over: try more --seconds, or answer\n",
+    ),
+    (
+        4,
+        Unanswered::TimeOfAllWays,
+        "ended: the time is over: try more --seconds\n",
     ),
     (
         4,

@@ -2,35 +2,35 @@
 
 use udp_node::{EndCause, SiteEnd};
 
-/// Why a run has no answer, as the end of the site shows it with which the run ended.
+/// Why the sites of a run ended, as far as it says why the run has no answer.
 #[derive(Clone, Copy)]
-pub(crate) struct Reasons {
+pub(crate) struct EndCauses {
     /// Why the first site ended that didn't end with the search, if one did.
     first: Option<&'static str>,
 }
 
-impl Reasons {
+impl EndCauses {
     /// Of a run in which no site has ended.
-    pub(crate) fn new() -> Reasons {
-        Reasons { first: None }
+    pub(crate) fn new() -> EndCauses {
+        EndCauses { first: None }
     }
 
     /// Notes that a site has ended so. The first that didn't end with the search is kept, since the others end because of it.
     pub(crate) fn hear(&mut self, end: &SiteEnd) {
         if end.cause != EndCause::Over && self.first.is_none() {
-            self.first = Some(reason_of(end));
+            self.first = Some(why_it_ended(end));
         }
     }
 
     /// Why there is no answer, with what may give one.
-    pub(crate) fn reason(&self) -> &'static str {
+    pub(crate) fn why(&self) -> &'static str {
         self.first
             .unwrap_or("nothing was published: try again, or answer")
     }
 }
 
 /// Why a site ended so, with what may help.
-fn reason_of(end: &SiteEnd) -> &'static str {
+fn why_it_ended(end: &SiteEnd) -> &'static str {
     match end.cause {
         EndCause::Over => "the search is over",
         EndCause::BookFull => "a book is full: try more --entries, or answer",
