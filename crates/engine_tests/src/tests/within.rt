@@ -171,7 +171,7 @@ fn progress_goes_on_until_the_time_is_over(rt: HostRuntime) {
 }
 
 /// Statuses and reasons, each with the line that is written.
-static UNANSWERED: [(u8, Unanswered, &str); 7] = [
+static UNANSWERED: [(u8, Unanswered, &str); 8] = [
     (0, Unanswered::Fuel, ""),
     (1, Unanswered::Time, ""),
     (
