@@ -3,7 +3,7 @@
 pub enum EndCause {
     /// The search is over.
     Over,
-    /// The site's book has as many entries as it may have.
+    /// The site's book has as many entries as it may have, or the books of the run take as many bytes as they may.
     BookFull,
     /// A hundred receives in a row failed.
     Faults,
