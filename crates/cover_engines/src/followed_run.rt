@@ -7,7 +7,7 @@ use cover_problem::Problem;
 use dlx_reader::Sink;
 use search_engines::{LineTimer, Progress, ProgressLog, TreeEstimate};
 use std::alloc::{AllocError, Global};
-use std::sync::atomic::{AtomicU64, Ordering};
+use std::sync::atomic::{AtomicBool, AtomicU64, Ordering};
 use std::sync::{Mutex, Wait};
 use std::time::Clock;
 use udp_node::{Follower, Gate, SiteEnd};
@@ -19,8 +19,10 @@ use udp_node::{Follower, Gate, SiteEnd};
 pub struct FollowedRun<'a, E: Sink, R: Wait + Clock> {
     rt: &'a R,
     overcounts: Overcounts,
-    /// How full the fullest book is, in percent.
+    /// How full the fullest book is, in percent: of the entries that it may have, or of the bytes that the books of all sites may take.
     fullest: AtomicU64,
+    /// The books of all sites take as many bytes as they may.
+    are_books_full: AtomicBool,
     state: Mutex<State<'a, E>>,
 }
 
@@ -62,8 +64,16 @@ impl<'a, E: Sink, R: Wait + Clock> FollowedRun<'a, E, R> {
             rt,
             overcounts: Overcounts::new(),
             fullest: AtomicU64::new(0),
+            are_books_full: AtomicBool::new(false),
             state: Mutex::new(state),
         })
+    }
+
+    /// Notes that a book has so much of what it may have at most.
+    fn fill(&self, part: u64, most: u64) {
+        let percent = part.saturating_mul(100) / most.max(1);
+        // (beside the lock, since each event of the threads of all nodes comes here)
+        self.fullest.fetch_max(percent, Ordering::SeqCst);
     }
 
     /// Writes how far the run has come, and how full the fullest book is.
@@ -146,15 +156,22 @@ impl<'a, E: Sink, R: Wait + Clock> Follower for FollowedRun<'a, E, R> {
     }
 
     fn recorded(&self, entries: u64, most: u64) {
-        let percent = entries.saturating_mul(100) / most.max(1);
-        // (beside the lock, since each event of the threads of all nodes comes here)
-        self.fullest.fetch_max(percent, Ordering::SeqCst);
+        self.fill(entries, most);
+    }
+
+    fn grown(&self, bytes: u64, most: u64) {
+        self.fill(bytes.min(most), most);
+        if bytes >= most {
+            self.are_books_full.store(true, Ordering::SeqCst);
+        }
     }
 
     fn ended(&self, _node: u8, end: &SiteEnd) {
         let mut state = self.state.lock(self.rt);
         state.end();
-        state.reasons.hear(end);
+        state
+            .reasons
+            .hear(end, self.are_books_full.load(Ordering::SeqCst));
     }
 
     /// Where there is no answer, the reason is written.

@@ -4,6 +4,7 @@ use crate::overcounts::Overcounts;
 use crate::reasons::Reasons;
 use brancher::Finding;
 use dlx_reader::Sink;
+use std::sync::atomic::{AtomicBool, Ordering};
 use std::sync::{Mutex, Wait};
 use udp_node::{Follower, Gate, SiteEnd};
 
@@ -13,6 +14,8 @@ use udp_node::{Follower, Gate, SiteEnd};
 pub struct QuietRun<'a, E: Sink, R: Wait> {
     rt: &'a R,
     overcounts: Overcounts,
+    /// The books of all sites take as many bytes as they may.
+    are_books_full: AtomicBool,
     state: Mutex<Heard<'a, E>>,
 }
 
@@ -36,6 +39,7 @@ impl<'a, E: Sink, R: Wait> QuietRun<'a, E, R> {
         QuietRun {
             rt,
             overcounts: Overcounts::new(),
+            are_books_full: AtomicBool::new(false),
             state: Mutex::new(heard),
         }
     }
@@ -57,8 +61,17 @@ impl<'a, E: Sink, R: Wait> Follower for QuietRun<'a, E, R> {
         }
     }
 
+    fn grown(&self, bytes: u64, most: u64) {
+        // (beside the lock, since each event of the threads of all nodes comes here)
+        if bytes >= most {
+            self.are_books_full.store(true, Ordering::SeqCst);
+        }
+    }
+
     fn ended(&self, _node: u8, end: &SiteEnd) {
-        self.state.lock(self.rt).reasons.hear(end);
+        let are_books_full = self.are_books_full.load(Ordering::SeqCst);
+        let mut state = self.state.lock(self.rt);
+        state.reasons.hear(end, are_books_full);
     }
 
     fn finished(&self, is_answered: bool) {

@@ -15,10 +15,11 @@ impl Reasons {
         Reasons { first: None }
     }
 
-    /// Notes that a site has ended so. The first that didn't end with the search is kept, since the others end because of it.
-    pub(crate) fn hear(&mut self, end: &SiteEnd) {
+    /// Notes that a site has ended so, while the books of all sites had as many bytes as they may have, or fewer. The first that didn't end
+    /// with the search is kept, since the others end because of it.
+    pub(crate) fn hear(&mut self, end: &SiteEnd, are_books_full: bool) {
         if end.cause != EndCause::Over && self.first.is_none() {
-            self.first = Some(reason_of(end));
+            self.first = Some(reason_of(end, are_books_full));
         }
     }
 
@@ -30,9 +31,12 @@ impl Reasons {
 }
 
 /// Why a site ended so, with what may help.
-fn reason_of(end: &SiteEnd) -> &'static str {
+fn reason_of(end: &SiteEnd, are_books_full: bool) -> &'static str {
     match end.cause {
         EndCause::Over => "the search is over",
+        EndCause::BookFull if are_books_full => {
+            "the books are as large as they may be: try more --megabytes, or answer"
+        }
         EndCause::BookFull => "a book is full: try more --entries, or answer",
         EndCause::Faults => "a socket failed: try again, or answer",
         EndCause::Memory => "out of memory: try fewer --nodes or --workers",

@@ -27,6 +27,25 @@ fn ended(cause: EndCause, is_manned: bool) -> SiteEnd {
     }
 }
 
+/// How large the books are, and how large they may be.
+type Grown = (u64, u64);
+
+/// Sizes of books while a run lasts, and what is written where a book is full then.
+static SIZES: [(&[Grown], &str); 3] = [
+    (
+        &[(99, 100)],
+        "ended: a book is full: try more --entries, or answer\n",
+    ),
+    (
+        &[(99, 100), (100, 100)],
+        "ended: the books are as large as they may be: try more --megabytes, or answer\n",
+    ),
+    (
+        &[(101, 100)],
+        "ended: the books are as large as they may be: try more --megabytes, or answer\n",
+    ),
+];
+
 /// The node of a site, why it ended, and whether its threads all began.
 type Ended = (u8, EndCause, bool);
 
@@ -116,6 +135,54 @@ fn told_quietly<R: Wait + Clock>(
     }
     drop(errors);
     told
+}
+
+/// What is written where a site's book was full, and the books had these sizes before.
+fn told_full<R: Wait + Clock>(rt: &R, alloc: Global, sizes: &[Grown]) -> Result<Vec<u8>, Fail> {
+    let read = read_problem(alloc, b"a\na\n")?;
+    let mut told = Vec::new(alloc);
+    let mut errors = CountedWriter::new(&mut told);
+    let log = ProgressLog::new(&mut errors, LineStyle::Listed);
+    let run = FollowedRun::new(rt, alloc, &read.problem, log)?;
+    for (bytes, most) in sizes {
+        run.grown(*bytes, *most);
+    }
+    run.ended(1, &ended(EndCause::BookFull, true));
+    run.finished(false);
+    drop(run);
+    drop(errors);
+    Ok(told)
+}
+
+/// Why a run that isn't followed has no answer, where a site's book was full, and the books had these sizes before.
+fn told_full_quietly<R: Wait + Clock>(
+    rt: &R,
+    alloc: Global,
+    sizes: &[Grown],
+) -> Option<&'static str> {
+    let mut told = Vec::new(alloc);
+    let mut errors = CountedWriter::new(&mut told);
+    let run = QuietRun::new(rt, &mut errors);
+    for (bytes, most) in sizes {
+        run.grown(*bytes, *most);
+    }
+    run.ended(1, &ended(EndCause::BookFull, true));
+    run.finished(false);
+    run.reason()
+}
+
+#[test]
+fn a_full_book_tells_which_limit_was_met(rt: HostRuntime) -> Result<(), Fail> {
+    for (sizes, line) in SIZES.iter() {
+        let told = told_full(&rt, rt.alloc(), sizes)?;
+        assert!(rt; told.as_slice() == line.as_bytes(), "{line}");
+        let reason = told_full_quietly(&rt, rt.alloc(), sizes);
+        assert!(rt;
+            reason.is_some_and(|reason| line.contains(reason)),
+            "{line}"
+        );
+    }
+    Ok(())
 }
 
 #[test]
