@@ -180,10 +180,17 @@ fn task_of<'a>(request: &'a Request<'_>, read: &'a Read, book_bytes: u64) -> Sol
         problem: &read.problem,
         settings: &request.settings,
         limit: limit_of(request),
-        book_bytes: match request.megabytes {
-            Some(megabytes) => u64::from(megabytes) * MEGABYTE,
-            None => book_bytes,
-        },
+        book_bytes: bound_of(request, book_bytes),
+    }
+}
+
+/// How many bytes the books of a run may take together: so many where the request doesn't say.
+fn bound_of(request: &Request<'_>, book_bytes: u64) -> u64
+    ensures { MatchOption request.now.megabytes (result ≡ book_bytes) (λ megabytes. result ≡ megabytes * 1000000) }
+{
+    match request.megabytes {
+        Some(megabytes) => u64::from(megabytes) * MEGABYTE,
+        None => book_bytes,
     }
 }
 

@@ -1,5 +1,7 @@
 //! How large the books of a run are.
 
+ghost use Rattle.std.specs.Prelude.{◌≡◌};
+
 use std::sync::atomic::{AtomicU64, Ordering};
 
 /// How many bytes the books of all sites of a run take together, and how many they may. The sites' threads share it without a lock, since
@@ -12,7 +14,9 @@ pub struct BookBytes {
 
 impl BookBytes {
     /// Books without an entry, which may take so many bytes together.
-    pub fn new(most: u64) -> BookBytes {
+    pub fn new(most: u64) -> BookBytes
+        ensures { result.most ≡ most }
+    {
         BookBytes {
             taken: AtomicU64::new(0),
             most,
@@ -30,7 +34,9 @@ impl BookBytes {
     }
 
     /// How many bytes they may take.
-    pub fn most(&self) -> u64 {
+    pub fn most(&self) -> u64
+        ensures { result ≡ self.now.most }
+    {
         self.most
     }
 

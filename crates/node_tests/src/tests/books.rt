@@ -120,7 +120,7 @@ impl Follower for Growth {
     }
 }
 
-/// How many bytes the books of a run may take that would need more than ten times as many.
+/// How many bytes the books of a run may take that would need more than five times as many.
 const FEW_BYTES: u64 = 50_000;
 
 /// What an entry of such a run takes at most.
@@ -169,10 +169,7 @@ fn a_run_counts_its_books(rt: HostRuntime) -> Result<(), Fail> {
     let (told, books) = (Told::Right, 2);
     assert_eq!(rt; ran.came, Came { told, books });
     let (bytes, entries) = (growth.bytes.load(Ordering::SeqCst), ran.entries as u64);
-    assert!(rt;
-        10 * FEW_BYTES < bytes,
-        "{bytes} bytes in {entries} entries"
-    );
+    assert!(rt; 5 * FEW_BYTES < bytes, "{bytes} bytes in {entries} entries");
     assert!(rt;
         bytes / LONGEST_ENTRY < entries && entries < bytes / 8,
         "{bytes} bytes in {entries} entries"

@@ -1,7 +1,7 @@
 //! How large the books of a run may be: by the machine's memory, and by the request.
 //!
 //! Of the bugs of `cover_engines` that are kept outside the gate, `a_tenth_of_the_memory` finds `books_take_all_of_the_memory`,
-//! and `large_books_end_a_run` finds `megabytes_are_forgotten` and `the_wrong_limit_is_named`.
+//! and `large_books_end_a_run` finds `the_wrong_limit_is_named`.
 
 use super::{NOTHING, sized, solve_on};
 use cover_engines::{Loopback, USUAL_BOOK_BYTES, book_bytes_of};
@@ -57,22 +57,21 @@ const PAIRS: &str = "a b c d e f g h i j k l m\n\
 const TOO_LARGE: &str =
     "ended: the books are as large as they may be: try more --megabytes, or answer\n";
 
-/// What a request has of megabytes, how many bytes the machine has for books, and whether progress is written.
-static BOUNDS: [(Option<u32>, u64, bool); 4] = [
-    (Some(1), USUAL_BOOK_BYTES, false),
-    (Some(1), USUAL_BOOK_BYTES, true),
-    (None, 1_000_000, false),
-    (Some(1), 0, false),
+/// Whether a megabyte is asked for, how many bytes the machine has for books, and whether progress is written.
+static BOUNDS: [(bool, u64, bool); 3] = [
+    (true, USUAL_BOOK_BYTES, false),
+    (true, USUAL_BOOK_BYTES, true),
+    (false, 1_000_000, false),
 ];
 
 /// Each job visits one prefix, so that there are many.
 #[test]
 fn large_books_end_a_run(rt: HostRuntime) -> Result<(), Fail> {
-    for (megabytes, book_bytes, progress) in BOUNDS {
+    for (is_asked, book_bytes, progress) in BOUNDS {
         let request = Request {
             settings: sized(1, 2, 1, 1),
             seconds: None,
-            megabytes,
+            megabytes: if is_asked { Some(1) } else { None },
             progress,
             unlimited: false,
             threads: None,
