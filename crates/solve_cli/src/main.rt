@@ -18,8 +18,9 @@ pub use cover_engines::{
     simulate_engine, solve_engine, tell, tell_fault,
 };
 use cover_engines::{
-    LineStyle, Loopback, Machine, ProgressLog, Remembered, SearchLimits, TimeLimit, Unanswered,
-    alone_within, check_within, tell_end_of, tell_unanswered, tell_unopened,
+    LineStyle, Loopback, Machine, ProgressLog, Remembered, SearchLimits, TimeLimit,
+    USUAL_BOOK_BYTES, Unanswered, alone_within, book_bytes_of, check_within, tell_end_of,
+    tell_unanswered, tell_unopened,
 };
 use dlx_reader::{CountedReader, CountedWriter, Sink, Source};
 use either::Either;
@@ -30,7 +31,7 @@ pub use run_settings::{Mode, Settings};
 use run_settings::{Request, STANDARD_INPUT};
 use search_engines::read_all;
 use std::env;
-use std::fs::File;
+use std::fs::{self, File};
 use std::io::{self, ErrorKind, IsTerminal, Stdin};
 use std::net::Net;
 use std::process::ExitCode;
@@ -306,6 +307,17 @@ fn run_simulate(rt: &HostRuntime, settings: &Settings<'_>) -> u8 {
     status
 }
 
+/// Where the system says how much memory the machine has.
+const MEMORY_INFO: &str = "/proc/meminfo";
+
+/// How many bytes the books of a run may take on this machine where nothing else is asked for.
+fn book_bytes(rt: &HostRuntime) -> u64 {
+    match fs::read_to_string(rt, MEMORY_INFO) {
+        Ok(text) => book_bytes_of(&text),
+        Err(_) => USUAL_BOOK_BYTES,
+    }
+}
+
 /// Runs `solve` on a file, and returns the exit status.
 fn run_solve<R: Threads + Wait + Clock + Net + Sync>(
     rt: &HostRuntime,
@@ -327,6 +339,7 @@ fn run_solve<R: Threads + Wait + Clock + Net + Sync>(
             random: rt,
         },
         lines: line_style(rt, request.progress),
+        book_bytes: book_bytes(rt),
     };
     let status = machine.solve(request, &mut source, &mut sink, &mut errors);
     source.tell_unknown(status, &mut errors);
