@@ -184,6 +184,8 @@ def main() -> int:
     if not given.write:
         want_program(SOLVE_CLI)
         print("| Instance | Items | Options | why | HiGHS | Needs | Rooms | Greatest |\n|---|---|---|---|---|---|---|---|")
+    else:
+        os.makedirs(given.write, exist_ok=True)
     with tempfile.TemporaryDirectory() as folder:
         for kind in given.kind or KINDS:
             for seed in range(1, given.seeds + 1):
