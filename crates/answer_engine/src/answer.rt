@@ -9,7 +9,7 @@ ghost use Rattle.search_engines.specs.Output.{IsOutputOf};
 
 use crate::basis::{Basis, Won};
 use crate::lanes::{learner_lane, run_lane, search_lane};
-use crate::race::{Race, workers_of};
+use crate::race::Race;
 use crate::race_watches::{CountingWatch, LaneWatch, SearchWatch};
 use crate::telling::write_told;
 use cover_problem::Problem;
@@ -82,7 +82,7 @@ fn lane_watch<'a, 'b, R: Threads + Wait + Clock + Sync>(
     }
 }
 
-/// Lets workers run, if there are threads for them, and the search go on, until the race is over.
+/// Lets a reason be looked for, workers run, if there are threads for them, and the search go on, until the race is over.
 fn run_and_search<V: EndWatch, R: Threads + Wait + Clock + Sync>(
     task: &Task<'_, R>,
     problem: &Problem,
@@ -104,7 +104,7 @@ fn run_and_search<V: EndWatch, R: Threads + Wait + Clock + Sync>(
     join(
         rt,
         || run_lane(rt, alloc, problem, threads, &mut run),
-        || search_lane(alloc, problem, &mut search, workers_of(threads) == 0),
+        || search_lane(alloc, problem, &mut search),
     )
 }
 
@@ -205,8 +205,8 @@ fn write_decided<V: EndWatch, W: Sink, R: Threads + Wait + Clock + Sync>(
 }
 
 /// Reads a problem to its end, and writes an exact cover of it, with the options in the order of the file, or `none`, whichever of three
-/// lanes finds it first: a search that keeps states and looks for a reason; a learner, which begins a tenth of a second later; and,
-/// where more than two threads may work, a reason, after a hundredth of a second, and the workers of a run in memory. Where the time is
+/// lanes finds it first: a search that keeps states; a learner, which begins a tenth of a second later; and a reason, after a hundredth of a second, or
+/// a tenth where one thread may work, and then, where more than two may, the workers of a run in memory. Where the time is
 /// limited it may write `no answer`. If that is asked for, what the answer rests on is written behind it. How far the search has come, and
 /// which lane was first, goes to the log.
 ///

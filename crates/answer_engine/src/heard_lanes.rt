@@ -4,8 +4,10 @@ ghost use Rattle.std.specs.Prelude.{IfOk, IfSome};
 ghost use Rattle.answer_engine.specs.Answers.{IsWonOf};
 
 use crate::basis::{Basis, Won};
-use crate::lanes::searched_shortly;
+use crate::lanes::searched;
+use crate::race::{Race, short_limit};
 use crate::race_watches::SearchWatch;
+use brancher::Unwatched;
 use cover_problem::{Answer, Problem};
 use cover_reasons::{ReasonWatch, find_reason_until};
 use decider::Trace;
@@ -20,6 +22,26 @@ fn is_cover(found: &Option<Won>) -> bool {
         Some(won) => matches!(won.answer, Answer::Cover(_)),
         None => false,
     }
+}
+
+/// The answer of a search that nothing hears of, within the time that it has before other lanes begin. The only error is out of memory.
+fn searched_shortly<C: Clock>(
+    clock: &C,
+    race: &Race,
+    alloc: Global,
+    problem: &Problem,
+) -> Result<Option<Won>, AllocError>
+    ensures { IfOk result (λ found. IfSome found (IsWonOf problem.now)) }
+{
+    let inner = &mut Unwatched;
+    let mut short = SearchWatch {
+        clock,
+        race,
+        time: Some(short_limit(clock)),
+        inner,
+        states: 0,
+    };
+    searched(alloc, problem, &mut short)
 }
 
 /// The answer of the search that keeps states, and that the listener hears of. The only error is out of memory.

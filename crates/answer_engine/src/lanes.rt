@@ -5,9 +5,8 @@ ghost use Rattle.answer_engine.specs.Answers.{IsRight, IsWonOf};
 ghost use Rattle.learner.specs.Found.{IsTrueOf};
 
 use crate::basis::{Basis, Won};
-use crate::race::{Race, short_limit, workers_of};
+use crate::race::{Race, workers_of};
 use crate::race_watches::{LaneWatch, SearchWatch};
-use brancher::Unwatched;
 use cover_problem::{Answer, Problem};
 use cover_reasons::ReasonWatch;
 use learner::{Found, LearnerWatch, Settings, find_cover};
@@ -22,7 +21,7 @@ use std::time::Clock;
 
 /// The answer of the search that keeps states. The only error is out of memory.
 #[tactic(auto, using(crate::proofs::Firsts::search_is_won))]
-fn searched<V: EndWatch, C: Clock>(
+pub(crate) fn searched<V: EndWatch, C: Clock>(
     alloc: Global,
     problem: &Problem,
     watch: &mut SearchWatch<'_, '_, '_, V, C>,
@@ -38,73 +37,17 @@ fn searched<V: EndWatch, C: Clock>(
     }
 }
 
-/// The same within the time that a search has before a reason is looked for.
-pub(crate) fn searched_shortly<C: Clock>(
-    clock: &C,
-    race: &Race,
-    alloc: Global,
-    problem: &Problem,
-) -> Result<Option<Won>, AllocError>
-    ensures { IfOk result (λ found. IfSome found (IsWonOf problem.now)) }
-{
-    let inner = &mut Unwatched;
-    let mut short = SearchWatch {
-        clock,
-        race,
-        time: Some(short_limit(clock)),
-        inner,
-        states: 0,
-    };
-    searched(alloc, problem, &mut short)
-}
-
-/// The answer of a short search, of a reason that excludes covers, or of a long search: for a lane beside which no other one looks for a
-/// reason. The only error is out of memory.
-fn searched_or_excluded<V: EndWatch, C: Clock>(
-    alloc: Global,
-    problem: &Problem,
-    watch: &mut SearchWatch<'_, '_, '_, V, C>,
-) -> Result<Option<Won>, AllocError>
-    ensures { IfOk result (λ found. IfSome found (IsWonOf problem.now)) }
-{
-    if let Some(won) = searched_shortly(watch.clock, watch.race, alloc, problem)? {
-        return Ok(Some(won));
-    }
-    if let Some(won) = excluded(alloc, problem, watch) {
-        return Ok(Some(won));
-    }
-    // (from the start once more: what the short search did is a tenth of a second, little beside what may follow)
-    searched(alloc, problem, watch)
-}
-
-/// The answer of the search, with a reason looked for where no other lane does. The only error is out of memory.
-fn searched_by<V: EndWatch, C: Clock>(
-    alloc: Global,
-    problem: &Problem,
-    watch: &mut SearchWatch<'_, '_, '_, V, C>,
-    is_alone: bool,
-) -> Result<Option<Won>, AllocError>
-    ensures { IfOk result (λ found. IfSome found (IsWonOf problem.now)) }
-{
-    if is_alone {
-        searched_or_excluded(alloc, problem, watch)
-    } else {
-        searched(alloc, problem, watch)
-    }
-}
-
 /// The lane of the search. The only error is out of memory.
 pub(crate) fn search_lane<V: EndWatch, C: Clock>(
     alloc: Global,
     problem: &Problem,
     watch: &mut SearchWatch<'_, '_, '_, V, C>,
-    is_alone: bool,
 ) -> Result<Option<Won>, AllocError>
     ensures { IfOk result (λ found. IfSome found (IsWonOf problem.now)) }
 {
     let race = watch.race;
     race.begin();
-    let found = searched_by(alloc, problem, watch, is_alone);
+    let found = searched(alloc, problem, watch);
     // (where it has no answer it was stopped, by another lane's or since the time is over)
     if found.is_ok() {
         race.end();
@@ -202,29 +145,25 @@ fn ran<R: Threads + Wait + Clock + Sync>(
     }
 }
 
-/// What a reason says, or else, once the search has lasted a tenth of a second, a run of so many workers.
-fn excluded_or_ran<R: Threads + Wait + Clock + Sync>(
+/// The answer of a run of so many workers, which begins once the search has lasted a tenth of a second; none where there are none.
+fn ran_later<R: Threads + Wait + Clock + Sync>(
     rt: &R,
     alloc: Global,
     problem: &Problem,
     workers: u8,
-    watch: &mut LaneWatch<'_, '_, R>,
+    race: &Race,
 ) -> Option<Won>
-    requires some { 1 ≤ workers }
-    requires most { workers ≤ 8 }
+    requires { workers ≤ 8 }
     ensures { IfSome result (IsWonOf problem.now) }
 {
-    if let Some(won) = excluded(alloc, problem, watch) {
-        return Some(won);
-    }
-    if !watch.race.begins_run(rt) {
+    if workers == 0 || !race.begins_run(rt) {
         return None;
     }
-    ran(rt, alloc, problem, workers, watch.race.over())
+    ran(rt, alloc, problem, workers, race.over())
 }
 
-/// The lane of a reason and then of a run in memory, which begins a hundredth of a second after the search, if so many threads are more than the
-/// other lanes need. Where memory runs out for it, or the run's books are full, it ends without an answer.
+/// The lane of a reason, and then of a run in memory if so many threads are more than the other lanes need. Where memory runs out for it, or the run's
+/// books are full, it ends without an answer.
 pub(crate) fn run_lane<R: Threads + Wait + Clock + Sync>(
     rt: &R,
     alloc: Global,
@@ -235,11 +174,13 @@ pub(crate) fn run_lane<R: Threads + Wait + Clock + Sync>(
     ensures { IfSome result (IsWonOf problem.now) }
 {
     let race = watch.race;
-    let workers = workers_of(threads);
-    if workers == 0 || !race.begins_reason(rt) {
+    if !race.begins_reason(rt, threads) {
         return None;
     }
-    let found = excluded_or_ran(rt, alloc, problem, workers, watch);
+    let found = match excluded(alloc, problem, watch) {
+        Some(won) => Some(won),
+        None => ran_later(rt, alloc, problem, workers_of(threads), race),
+    };
     if found.is_some() {
         race.end();
     }

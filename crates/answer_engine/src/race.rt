@@ -1,9 +1,9 @@
 //! What the lanes of a race share.
 //!
 //! A portfolio, as in SAT competitions (plingeling, and Gomes and Selman, "Algorithm portfolios"): ways whose times have little to do with
-//! each other run side by side, and the first answer ends the others. Search and learner have a thread each, on any number of processors;
-//! workers of a run get what is more, so that two lanes that take turns aren't slowed down by a third. For a tenth of a second the search
-//! is alone, since most files are decided by then, but for a reason that a thread of the third lane looks for.
+//! each other run side by side, and the first answer ends the others. Search, learner and reasons have a thread each, on any number of processors;
+//! workers of a run get what is more, so that two lanes that take turns aren't slowed down by a third for longer than a reason is looked for. For a
+//! tenth of a second the search is alone, since most files are decided by then, but for a reason that is looked for on a second processor.
 
 ghost use Rattle.std.specs.Prelude.{◌≤◌};
 
@@ -13,26 +13,26 @@ use std::sync::atomic::{AtomicBool, Ordering};
 use std::thread::Parker;
 use std::time::{Clock, Duration};
 
-/// How many milliseconds the search is alone: what it decides in them needs no second thread at work, but for one that looks for a reason.
+/// How many milliseconds the search has before other lanes begin: what it decides in them needs no second thread at work.
 const ALONE: u64 = 100;
 
 /// How many milliseconds it has before a reason is looked for on a processor of its own.
 const FIRST: u64 = 10;
 
-/// How many threads the first two lanes have: what is more works in the third.
+/// How many threads search and learner have: what is more works in a run.
 const LANES: u64 = 2;
 
 /// How many workers a node has at most.
 const MOST_WORKERS: u64 = 8;
 
-/// How many workers the third lane has where so many threads may work; none where the first two need all.
+/// How many workers a run has where so many threads may work; none where search and learner need all.
 pub(crate) fn workers_of(threads: u64) -> u8
     ensures { result ≤ 8 }
 {
     threads.saturating_sub(LANES).min(MOST_WORKERS) as u8
 }
 
-/// The limit of a search that begins now and is over when further lanes begin.
+/// The limit of a search that begins now and is over when other lanes begin.
 pub(crate) fn short_limit<C: Clock>(clock: &C) -> TimeLimit {
     TimeLimit::from_now(clock, Duration::from_millis(ALONE))
 }
@@ -46,7 +46,7 @@ pub(crate) struct Race {
     is_over: AtomicBool,
     /// Where the learner waits before it begins.
     learner: Parker,
-    /// Where the run waits before it begins.
+    /// Where the lane of the reason and the run waits before either begins.
     run: Parker,
 }
 
@@ -71,9 +71,10 @@ impl Race {
         self.is_begun(rt, &self.learner, ALONE)
     }
 
-    /// Waits, for the reason of the lane of the run, as `is_begun` does for any lane.
-    pub(crate) fn begins_reason<R: Wait>(&self, rt: &R) -> bool {
-        self.is_begun(rt, &self.run, FIRST)
+    /// Waits, for the reason where so many threads may work at once, as `is_begun` does for any lane.
+    pub(crate) fn begins_reason<R: Wait>(&self, rt: &R, threads: u64) -> bool {
+        let wait = if threads > 1 { FIRST } else { ALONE };
+        self.is_begun(rt, &self.run, wait)
     }
 
     /// Waits, for the run behind its reason, as `is_begun` does for any lane.

@@ -8,9 +8,9 @@ ghost use Rattle.clash_cliques.specs.Cliques.{IsWithCliques};
 
 use crate::clique::Clique;
 use crate::growing::find_cliques;
-use crate::making::with_cliques;
+use crate::making::with_cliques_until;
 use cover_problem::Problem;
-use cover_reasons::{ReasonWatch, Room, find_room, lack_of_room_excludes_covers};
+use cover_reasons::{ReasonWatch, Room, find_room_until, lack_of_room_excludes_covers};
 use std::alloc::{AllocError, Global};
 use used_items::same_covers_have_the_same_none;
 
@@ -25,20 +25,21 @@ pub struct RoomByCliques {
     pub room: Room,
 }
 
-/// Room that is too little once these cliques have items.
-fn room_by(
+/// Room that is too little once these cliques have items, if it is found before the watch ends that.
+fn room_by<W: ReasonWatch>(
     alloc: Global,
     problem: &Problem,
     cliques: Vec<Clique>,
+    watch: &mut W,
 ) -> Result<Option<RoomByCliques>, AllocError>
     ensures { IfOk result (λ found. IfSome found (λ by.
         IsWithCliques problem.now by.cliques.items by.problem
         × (is_too_little by.problem by.room ≡ true))) }
 {
-    let Some(made) = with_cliques(alloc, problem, &cliques)? else {
+    let Some(made) = with_cliques_until(alloc, problem, &cliques, watch)? else {
         return Ok(None);
     };
-    match find_room(alloc, &made)? {
+    match find_room_until(alloc, &made, watch)? {
         Some(room) => Ok(Some(RoomByCliques {
             cliques,
             problem: made,
@@ -67,10 +68,11 @@ fn with_room(
 }
 
 /// The same by fewer cliques, only those that count, if that is found, too.
-fn by_fewer(
+fn by_fewer<W: ReasonWatch>(
     alloc: Global,
     problem: &Problem,
     found: RoomByCliques,
+    watch: &mut W,
 ) -> Result<Option<RoomByCliques>, AllocError>
     requires cliques { IsWithCliques problem.now found.cliques.items found.problem }
     requires room { is_too_little found.problem found.room ≡ true }
@@ -79,7 +81,7 @@ fn by_fewer(
         × (is_too_little by.problem by.room ≡ true))) }
 {
     let fewer = with_room(alloc, problem.items(), &found.cliques, &found.room)?;
-    match room_by(alloc, problem, fewer)? {
+    match room_by(alloc, problem, fewer, watch)? {
         Some(less) => Ok(Some(less)),
         None => Ok(Some(found)),
     }
@@ -99,8 +101,8 @@ fn search_room<W: ReasonWatch>(
     if cliques.is_empty() || watch.look() {
         return Ok(None);
     }
-    match room_by(alloc, problem, cliques)? {
-        Some(found) => by_fewer(alloc, problem, found),
+    match room_by(alloc, problem, cliques, watch)? {
+        Some(found) => by_fewer(alloc, problem, found, watch),
         None => Ok(None),
     }
 }
@@ -108,8 +110,8 @@ fn search_room<W: ReasonWatch>(
 /// Room that is too little for an exact cover, once cliques have items that are found before the watch ends that. Then there is no exact cover
 /// of the problem itself.
 ///
-/// Where none is found there may be a cover or none. The watch is asked before each clique and before the room is looked for, but not within
-/// that. The only error is out of memory.
+/// Where none is found there may be a cover or none. The watch is asked before each clique is grown, before each one has its item, and as often as where
+/// room is looked for. The only error is out of memory.
 #[tactic(auto, using(crate::proofs::Several::barren_too))]
 pub fn find_room_by_cliques<W: ReasonWatch>(
     alloc: Global,

@@ -9,7 +9,7 @@ use crate::growing::find_cliques;
 use crate::laws::cliques_keep_covers;
 use crate::testing::is_clique;
 use cover_problem::Problem;
-use cover_reasons::ReasonWatch;
+use cover_reasons::{Endless, ReasonWatch};
 use std::alloc::{AllocError, Global};
 
 /// A problem with further secondary items, and the cliques that they stand for.
@@ -21,11 +21,13 @@ pub struct WithCliques {
     pub cliques: Vec<Clique>,
 }
 
-/// The problem with an item for each of the cliques, one after the other; nothing where one of them is none. The only error is out of memory.
-fn made_with(
+/// The problem with an item for each of the cliques, one after the other; nothing where one of them is none, or the watch ends that. The only error
+/// is out of memory.
+fn made_with<W: ReasonWatch>(
     alloc: Global,
     problem: &Problem,
     cliques: &[Clique],
+    watch: &mut W,
 ) -> Result<Option<Problem>, AllocError>
     ensures { IfOk result (λ found. IfSome found (λ made.
         (are_cliques problem.now cliques.now ≡ true)
@@ -33,7 +35,7 @@ fn made_with(
 {
     let mut made = problem.copy()?;
     for clique in cliques {
-        if !is_clique(&made, clique) {
+        if watch.look() || !is_clique(&made, clique) {
             return Ok(None);
         }
         made = with_clique(alloc, &made, clique)?;
@@ -51,9 +53,22 @@ pub fn with_cliques(
     ensures { IfOk result (λ found.
         IfSome found (λ made. IsWithCliques problem.now cliques.now made)) }
 {
+    with_cliques_until(alloc, problem, cliques, &mut Endless)
+}
+
+/// The same, made until the watch ends that: then there is none.
+pub(crate) fn with_cliques_until<W: ReasonWatch>(
+    alloc: Global,
+    problem: &Problem,
+    cliques: &[Clique],
+    watch: &mut W,
+) -> Result<Option<Problem>, AllocError>
+    ensures { IfOk result (λ found.
+        IfSome found (λ made. IsWithCliques problem.now cliques.now made)) }
+{
     cliques_keep_covers();
     problem.recall_rules();
-    made_with(alloc, problem, cliques)
+    made_with(alloc, problem, cliques, watch)
 }
 
 /// The problem with a further secondary item for each clique that is found before the watch ends that; nothing where none is found. The only
@@ -70,7 +85,7 @@ pub fn with_found_cliques<W: ReasonWatch>(
     if cliques.is_empty() {
         return Ok(None);
     }
-    match with_cliques(alloc, problem, &cliques)? {
+    match with_cliques_until(alloc, problem, &cliques, watch)? {
         Some(problem) => Ok(Some(WithCliques { problem, cliques })),
         None => Ok(None),
     }

@@ -4,6 +4,7 @@ ghost use Rattle.std.specs.Prelude.{◌≡◌};
 
 use crate::bits::Bits;
 use crate::neighbours::Neighbours;
+use crate::reason_watch::ReasonWatch;
 use cover_problem::Problem;
 use fractional_room::Row;
 use std::alloc::{AllocError, Global};
@@ -55,8 +56,14 @@ impl Kind {
     }
 
     /// Makes the kind that of an item: of each option of its owners the item that is most like it, of those that no option names beside it.
-    /// Returns about how many items, and words of sets of items, were looked at.
-    pub fn set(&mut self, problem: &Problem, neighbours: &Neighbours, one: usize) -> usize {
+    /// Where the watch ends that, some of them. Returns about how many items, and words of sets of items, were looked at.
+    pub fn set<W: ReasonWatch>(
+        &mut self,
+        problem: &Problem,
+        neighbours: &Neighbours,
+        one: usize,
+        watch: &mut W,
+    ) -> usize {
         self.items.clear();
         let mut steps = self.compare(problem, neighbours, one);
         steps = steps.saturating_add(self.meet_companions(problem, neighbours, one));
@@ -66,6 +73,9 @@ impl Kind {
         };
         for owner in 0..problem.primary() {
             if owners.has(owner) {
+                if watch.look() {
+                    break;
+                }
                 steps = steps.saturating_add(self.add_likest(problem, neighbours, owner));
             }
         }

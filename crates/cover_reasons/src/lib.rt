@@ -30,7 +30,7 @@ pub use reason_finder::{
 };
 pub use reason_watch::{Endless, ReasonWatch};
 pub use room::Room;
-pub use room_finder::find_room;
+pub use room_finder::{find_room, find_room_until};
 pub use room_test::{fits, is_plain, is_too_little, whole_amount};
 pub use weights::{MOST_MODULUS, Weights};
 pub use weights_finder::find_weights;

@@ -161,38 +161,40 @@ impl Finder {
                 break;
             }
             if self.kind.is_new(neighbours, *one as usize) {
-                let found = self.room_of_kind(alloc, problem, neighbours, *one as usize)?;
+                let found = self.room_of_kind(alloc, problem, neighbours, *one as usize, watch)?;
                 least = lesser(least, found);
             }
         }
         Ok(least)
     }
 
-    /// Room of the kind of an item.
-    fn room_of_kind(
+    /// Room of the kind of an item, or of a part of it where the watch ends that.
+    fn room_of_kind<W: ReasonWatch>(
         &mut self,
         alloc: Global,
         problem: &Problem,
         neighbours: &Neighbours,
         one: usize,
+        watch: &mut W,
     ) -> Result<Option<Room>, AllocError> {
-        let steps = self.kind.set(problem, neighbours, one);
+        let steps = self.kind.set(problem, neighbours, one, watch);
         self.steps = self.steps.saturating_add(steps);
-        let found = self.matched_kind(alloc, problem, neighbours)?;
+        let found = self.matched_kind(alloc, problem, neighbours, watch)?;
         if found.is_some() || !self.kind.widen(problem, neighbours) {
             return Ok(found);
         }
-        self.matched_kind(alloc, problem, neighbours)
+        self.matched_kind(alloc, problem, neighbours, watch)
     }
 
     /// Room of the kind as it is.
-    fn matched_kind(
+    fn matched_kind<W: ReasonWatch>(
         &mut self,
         alloc: Global,
         problem: &Problem,
         neighbours: &Neighbours,
+        watch: &mut W,
     ) -> Result<Option<Room>, AllocError> {
-        let steps = need_kind(problem, neighbours, &self.kind, &mut self.demand);
+        let steps = need_kind(problem, neighbours, &self.kind, &mut self.demand, watch);
         self.steps = self.steps.saturating_add(steps);
         self.unmet_room(alloc, problem)
     }
@@ -253,17 +255,21 @@ impl Finder {
     }
 }
 
-/// Makes the demand what primary items need of a kind. Returns how many items were looked at.
-fn need_kind(
+/// Makes the demand what primary items need of a kind, or what some of them do where the watch ends that. Returns how many items were looked at.
+fn need_kind<W: ReasonWatch>(
     problem: &Problem,
     neighbours: &Neighbours,
     kind: &Kind,
     demand: &mut Demand,
+    watch: &mut W,
 ) -> usize {
     demand.clear();
     let mut steps: usize = 0;
     for owner in 0..problem.primary() {
         if kind.owners().has(owner) && !kind.items().has(owner) {
+            if watch.look() {
+                break;
+            }
             let more = demand.set_by_kind(problem, neighbours, kind.items(), owner);
             steps = steps.saturating_add(more);
         }

@@ -10,7 +10,7 @@ use clash_cliques::{RoomByCliques, find_room_by_cliques};
 use cover_problem::Problem;
 use cover_reasons::{Reason, ReasonWatch, find_fractional_reason_until, find_short_reason_until};
 use std::alloc::{AllocError, Global};
-use used_items::{WithUsedItems, with_used_items};
+use used_items::{WithUsedItems, with_used_items_until};
 
 /// Why a problem has no exact cover.
 #[derive(Drop)]
@@ -53,7 +53,7 @@ fn cause_by_used_items<W: ReasonWatch>(
     if watch.look() {
         return Ok(None);
     }
-    match with_used_items(alloc, problem)? {
+    match with_used_items_until(alloc, problem, watch)? {
         Some(made) => cause_by_use(alloc, problem, made, watch),
         None => Ok(None),
     }

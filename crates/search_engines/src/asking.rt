@@ -6,7 +6,7 @@ ghost use Rattle.dlx_reader.specs.Writing.{IsWritable};
 ghost use Rattle.search_engines.specs.Alone.{answer_by};
 ghost use Rattle.used_items.specs.Covers.{HaveSameCovers};
 
-use crate::deciding::searched;
+use crate::deciding::{RootWatch, searched};
 use crate::looking::{LATE, LookingWatch};
 use crate::walk_watch::{ForProblem, WalkWatch};
 use brancher::{Tables, Watch};
@@ -17,7 +17,7 @@ use question_walk::{QuestionWalk, WalkEnd};
 use std::alloc::{AllocError, Global};
 use std::marker::Brand;
 use std::time::Clock;
-use used_items::{WithUsedItems, with_used_items};
+use used_items::{WithUsedItems, with_used_items_until};
 
 /// How many bytes may be taken by what is learned.
 const LEARNED: u64 = 1 << 28;
@@ -102,11 +102,15 @@ fn searched_asking<V: Watch, C: Clock>(
     }
 }
 
-/// The problem with those items made primary that each exact cover uses, if some are found and there is memory for it.
-fn with_more_primary(alloc: Global, problem: &Problem) -> Option<WithUsedItems>
+/// The problem with those items made primary that each exact cover uses, if some are found before the watch ends that and there is memory for it.
+fn with_more_primary<V: Watch>(
+    alloc: Global,
+    problem: &Problem,
+    watch: &mut V,
+) -> Option<WithUsedItems>
     ensures { IfSome result (λ made. HaveSameCovers problem.now made.problem) }
 {
-    match with_used_items(alloc, problem) {
+    match with_used_items_until(alloc, problem, &mut RootWatch { watch }) {
         Ok(made) => made,
         Err(AllocError) => None,
     }
@@ -145,7 +149,7 @@ pub(crate) fn searched_and_asked<V: Watch, C: Clock>(
         (λ answer. answer ≡ answer_by tables.now (first tables.now []))) }
     ensures order { IfOk result (λ found. IfSome found (IsWritable tables.now)) }
 {
-    let made = with_more_primary(alloc, tables.problem());
+    let made = with_more_primary(alloc, tables.problem(), watch);
     if let Some(answer) = searched_at_length(clock, alloc, tables, made.as_ref(), watch)? {
         return Ok(Some(answer));
     }

@@ -4,6 +4,7 @@ ghost use Rattle.std.specs.Prelude.{◌≡◌, ◌<◌, length};
 
 use crate::row::Row;
 use cover_problem::Problem;
+use cover_reasons::ReasonWatch;
 use std::alloc::{AllocError, Global};
 
 /// The class of an item that is primary, or to which some option gives a colour.
@@ -50,12 +51,13 @@ fn add_option(
 }
 
 impl Classes {
-    /// The classes of a problem's items: in their order, each item gets the first class that has none beside it in an option. The only
-    /// error is out of memory.
-    pub(crate) fn new(
+    /// The classes of a problem's items: in their order, each item gets the first class that has none beside it in an option. Where the watch ends
+    /// that, further items have none. The only error is out of memory.
+    pub(crate) fn new<W: ReasonWatch>(
         alloc: Global,
         problem: &Problem,
         most_steps: usize,
+        watch: &mut W,
     ) -> Result<Classes, AllocError> {
         let mut classes = Classes {
             options: empty_lists(alloc, problem.items())?,
@@ -65,7 +67,7 @@ impl Classes {
         };
         let mut coloured = Row::zeros(alloc, problem.items())?;
         classes.list_options(problem, &mut coloured)?;
-        classes.set_classes(alloc, problem, &coloured, most_steps)?;
+        classes.set_classes(alloc, problem, &coloured, most_steps, watch)?;
         Ok(classes)
     }
 
@@ -77,18 +79,19 @@ impl Classes {
         Ok(())
     }
 
-    /// Puts each secondary item without a colour into a class, as long as not too many items were looked at.
-    fn set_classes(
+    /// Puts each secondary item without a colour into a class, as long as not too many items were looked at and the watch doesn't end it.
+    fn set_classes<W: ReasonWatch>(
         &mut self,
         alloc: Global,
         problem: &Problem,
         coloured: &Row,
         most_steps: usize,
+        watch: &mut W,
     ) -> Result<(), AllocError> {
         // (of each class the item, plus 1, that last met one of the class)
         let mut met = Row::zeros(alloc, problem.items().saturating_add(2))?;
         for item in problem.primary()..problem.items() {
-            if self.steps > most_steps {
+            if self.steps > most_steps || watch.look() {
                 break;
             }
             if coloured.at(item) == 0 {

@@ -4,7 +4,7 @@ ghost use Rattle.std.specs.Prelude.{◌≡◌, [], true, None, IfOk};
 ghost use Rattle.cover_problem.specs.Search.{first};
 
 use crate::laws::same_covers_have_the_same_none;
-use crate::making::with_used_items;
+use crate::making::with_used_items_until;
 use cover_problem::Problem;
 use cover_reasons::{ReasonWatch, find_short_reason_until, holds_of};
 use std::alloc::{AllocError, Global};
@@ -37,7 +37,7 @@ pub fn is_excluded_by_used_items<W: ReasonWatch>(
     if watch.look() {
         return Ok(false);
     }
-    match with_used_items(alloc, problem)? {
+    match with_used_items_until(alloc, problem, watch)? {
         Some(made) => has_reason(alloc, &made.problem, watch),
         None => Ok(false),
     }

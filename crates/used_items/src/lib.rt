@@ -19,6 +19,6 @@ pub use excluding::is_excluded_by_used_items;
 pub use laws::{
     items_with_just_enough_room_are_used, promotion_keeps_covers, same_covers_have_the_same_none,
 };
-pub use making::{WithUsedItems, with_room, with_used_items};
+pub use making::{WithUsedItems, with_room, with_used_items, with_used_items_until};
 pub use order::{Order, is_order};
 pub use promoting::{promoted, promotes};

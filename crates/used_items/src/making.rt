@@ -8,7 +8,7 @@ use crate::promoting::{promoted, promotes};
 use crate::room_finder::find_full_room;
 use crate::row::Row;
 use cover_problem::Problem;
-use cover_reasons::Room;
+use cover_reasons::{Endless, ReasonWatch, Room};
 use std::alloc::{AllocError, Global};
 
 /// A problem with more primary items than another one, and the room that says why: it is just enough, so each exact cover uses the items
@@ -87,7 +87,19 @@ pub fn with_used_items(
     ensures { IfOk result (λ found.
         IfSome found (λ made. IsPromoted problem.now made.room made.problem)) }
 {
-    match find_full_room(alloc, problem)? {
+    with_used_items_until(alloc, problem, &mut Endless)
+}
+
+/// The same, looked for until the watch ends that: then there are those that were found by then, or none.
+pub fn with_used_items_until<W: ReasonWatch>(
+    alloc: Global,
+    problem: &Problem,
+    watch: &mut W,
+) -> Result<Option<WithUsedItems>, AllocError>
+    ensures { IfOk result (λ found.
+        IfSome found (λ made. IsPromoted problem.now made.room made.problem)) }
+{
+    match find_full_room(alloc, problem, watch)? {
         Some(room) => made_with(alloc, problem, room),
         None => Ok(None),
     }

@@ -8,7 +8,7 @@ use crate::enough::is_just_enough;
 use crate::matching::Matching;
 use crate::row::Row;
 use cover_problem::Problem;
-use cover_reasons::Room;
+use cover_reasons::{ReasonWatch, Room};
 use std::alloc::{AllocError, Global};
 
 /// About how many items of options are looked at, a tenth of a second.
@@ -55,14 +55,19 @@ impl Total {
 /// Room that may be just enough for an exact cover: that of secondary items of one class, no two of which an option names, or of all
 /// classes, for primary items that name them in each of their options; several such rooms are added up.
 ///
-/// It looks at some 20,000,000 items of options at most, and takes memory of the order of the problem. The only error is out of memory.
-pub(crate) fn find_full_room(alloc: Global, problem: &Problem) -> Result<Option<Room>, AllocError> {
-    let classes = Classes::new(alloc, problem, MOST_STEPS)?;
+/// It looks at some 20,000,000 items of options at most, until the watch ends that, and takes memory of the order of the problem. The only error is
+/// out of memory.
+pub(crate) fn find_full_room<W: ReasonWatch>(
+    alloc: Global,
+    problem: &Problem,
+    watch: &mut W,
+) -> Result<Option<Room>, AllocError> {
+    let classes = Classes::new(alloc, problem, MOST_STEPS, watch)?;
     if classes.count() == 0 {
         return Ok(None);
     }
     let mut total = Total::new(alloc, problem)?;
-    add_classes(alloc, problem, &classes, &mut total)?;
+    add_classes(alloc, problem, &classes, &mut total, watch)?;
     let Total {
         needs,
         rooms,
@@ -74,17 +79,18 @@ pub(crate) fn find_full_room(alloc: Global, problem: &Problem) -> Result<Option<
     Ok(Some(Room::from_parts(needs.into_vec(), rooms.into_vec())))
 }
 
-/// Adds the room of each class, and at last of all of them as one.
-fn add_classes(
+/// Adds the room of each class, and at last of all of them as one, until the watch ends that.
+fn add_classes<W: ReasonWatch>(
     alloc: Global,
     problem: &Problem,
     classes: &Classes,
     total: &mut Total,
+    watch: &mut W,
 ) -> Result<(), AllocError> {
     let mut matching = Matching::new(alloc, problem)?;
     let mut steps = classes.steps();
     for turn in 1..=classes.count() {
-        if steps > MOST_STEPS {
+        if steps > MOST_STEPS || watch.look() {
             return Ok(());
         }
         let used = add_class(alloc, problem, classes, turn, &mut matching, total)?;
