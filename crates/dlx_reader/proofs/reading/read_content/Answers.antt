@@ -6,4 +6,4 @@ use Rattle.dlx_reader.proofs.reading.read_content.Goals as goal
 pub from_parts-requires : goal.from_parts-requires
 from_parts-requires c =
     rw (c.into_list-names.ensures, c.primary_in-primary.ensures, c.into_parts-options.ensures.options, c.into_parts-options.ensures.colours, c.into_parts-options.ensures.colour_names)
-    (read_is_problem c.args.items.number (words_of c.args.items.text.now) (content_left c.args.others) c.in_ok-names.names c.in_ok-kept.kept c.requires.content c.requires.words c.requires.others c.in_ok-names.ensures (rw c.primary_in-primary.ensures at c.in_ok-kept.ensures))
+    (read_is_problem c.args.items.number (words_of c.args.items.text.now) (content_left c.args.others) c.in_ok-names.names c.in_ok-kept.kept c.requires.content c.requires.words c.requires.others c.in_ok-names.ensures.gives (rw c.primary_in-primary.ensures at c.in_ok-kept.ensures.gives))
