@@ -90,7 +90,8 @@ def look(process: int, begun: float, lines: str) -> Look:
 def looks(file: str, sites: tuple[int, int], seconds: int, folder: str) -> tuple[Look, Look]:
     """Runs a search for some time, and looks at it when half of that is over, and near its end."""
     nodes, workers = sites
-    words = [SOLVE_CLI, "solve", file, "--nodes", str(nodes), "--workers", str(workers), "--entries", str(ENTRIES), "--turns", "10000000", "--progress"]
+    words = [SOLVE_CLI, "solve", file, "--nodes", str(nodes), "--workers", str(workers), "--entries", str(ENTRIES)]
+    words += ["--megabytes", "1000000", "--turns", "10000000", "--progress"]
     lines = os.path.join(folder, "lines")
     begun = time.monotonic()
     with open(lines, "w", encoding="ascii") as out, subprocess.Popen(words, stdout=subprocess.DEVNULL, stderr=out) as run:

@@ -344,6 +344,10 @@ def progress() -> None:
         full = run("solve", letters, "--entries", "1", *more)
         expect(f"a full book {more}", full == (b"no answer\n", b"ended: a book is full: try more --entries, or answer\n", 4))
     long = os.path.join(TOP, "examples", "mutilated-chessboard.dlx")
+    for more in ((), ("--progress",)):
+        out, errors, status = run("solve", long, "--fuel", "1", "--megabytes", "1", *more)
+        large = b"ended: the books are as large as they may be: try more --megabytes, or answer\n"
+        expect(f"large books {more}", (out, status) == (b"no answer\n", 4) and errors.endswith(large))
     out, errors, status = run("solve", long, "--fuel", "1", "--seconds", "2", "--progress")
     lines = errors.decode().splitlines()
     expect("a limit", (out, status) == (b"no answer\n", 4) and lines[-1] == "ended: the time is over: try more --seconds")

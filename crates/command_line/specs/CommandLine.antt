@@ -85,10 +85,10 @@ abbrev pub simulate_app : App
 simulate_app =
     with_rule (with_rule (sites_app (codes "simulate")) (number_rule (codes "turns") (codes "10000"))) (number_rule (codes "restarts") (codes "0"))
 
--- the same with how long threads go on, how often a node is restarted, how many threads there are, and how long books may get
+-- the same with how long threads go on, how often a node is restarted, how many threads there are, how long books may get, and how large
 abbrev pub threads_app : App
 threads_app =
-    with_rule (with_rule (with_rule (with_rule (sites_app (codes "solve")) (number_rule (codes "turns") (codes "1000000"))) (number_rule (codes "restarts") (codes "0"))) (number_rule (codes "workers") (codes "2"))) (number_rule (codes "entries") (codes "1000000"))
+    with_rule (with_rule (with_rule (with_rule (with_rule (sites_app (codes "solve")) (number_rule (codes "turns") (codes "1000000"))) (number_rule (codes "restarts") (codes "0"))) (number_rule (codes "workers") (codes "2"))) (number_rule (codes "entries") (codes "1000000"))) (limit_rule (codes "megabytes"))
 
 -- that with whether the books are audited, when the run ends, and whether it writes how far it has come
 abbrev pub solve_app : App
@@ -169,6 +169,7 @@ pub record AreSpelled (name : Text) (given : Text → Option Text) (settings : S
 pub record IsSpelled (name : Text) (given : Text → Option Text) (request : Request) : Type 0 where
   pub settings : AreSpelled name given request.settings
   pub seconds_given : SpellsIf (given (codes "seconds")) request.seconds
+  pub megabytes_given : SpellsIf (given (codes "megabytes")) request.megabytes
   pub progress_given : IsFlag (given (codes "progress")) request.progress
   pub unlimited_given : IsFlag (given (codes "unlimited")) request.unlimited
   pub threads_given : SpellsIf (given (codes "threads")) request.threads

@@ -6,9 +6,9 @@ ghost use Rattle.clap.specs.declared.builder.command.Command.TheViews.{out-Comma
 ghost use Rattle.command_line.specs.CommandLine.{alone_app, answer_app, answering_app, check_app, file_rule, flag_rule, greatest_fuel_rule, learn_app, limit_rule, number_rule, one_thread_app, reasoning_app, simulate_app, sites_app, solve_app, solver_app, threads_app, versioned, why_app};
 
 use crate::ranges::{
-    ENTRIES_HELP, FUEL_HELP, GREATEST_FUEL, JOB_FUEL_HELP, NODE_RESTARTS_HELP, NODES_HELP,
-    RESTARTS_HELP, RUN_SECONDS_HELP, SECONDS_HELP, SEED_HELP, THREAD_TURNS_HELP, THREADS_HELP,
-    TURNS_HELP, WORKERS_HELP,
+    ENTRIES_HELP, FUEL_HELP, GREATEST_FUEL, JOB_FUEL_HELP, MEGABYTES_HELP, NODE_RESTARTS_HELP,
+    NODES_HELP, RESTARTS_HELP, RUN_SECONDS_HELP, SECONDS_HELP, SEED_HELP, THREAD_TURNS_HELP,
+    THREADS_HELP, TURNS_HELP, WORKERS_HELP,
 };
 use clap::error::ErrorKind;
 use clap::{Arg, ArgAction, Command, Error};
@@ -263,7 +263,7 @@ fn simulate_command<'a>(alloc: Global) -> Result<Command<'a>, AllocError>
     )
 }
 
-/// What threads search, how long they go on, how often a node is restarted, and how many workers there are.
+/// What threads search, how long they go on, how often a node is restarted, how many workers there are, and how large books may get.
 fn threads_command<'a>(alloc: Global) -> Result<Command<'a>, AllocError>
     ensures app { IfOk result (λ command. app_of command ≡ threads_app) }
     ensures local { IfOk result (λ command. (out-Command command).has_globals ≡ false) }
@@ -275,11 +275,12 @@ fn threads_command<'a>(alloc: Global) -> Result<Command<'a>, AllocError>
         number_argument(alloc, "turns", "1000000", THREAD_TURNS_HELP),
         number_argument(alloc, "restarts", "0", NODE_RESTARTS_HELP),
     )?;
-    with_two(
+    let bounded = with_two(
         limited,
         number_argument(alloc, "workers", "2", WORKERS_HELP),
         number_argument(alloc, "entries", "1000000", ENTRIES_HELP),
-    )
+    )?;
+    bounded.arg(limit_argument(alloc, "megabytes", MEGABYTES_HELP))
 }
 
 fn solve_command<'a>(alloc: Global) -> Result<Command<'a>, AllocError>

@@ -7,9 +7,10 @@ ghost use Rattle.clap.specs.Words.{first_value, found_of};
 ghost use Rattle.command_line.specs.CommandLine.{Spells, SpellsIf, SpellsOr, greatest_fuel};
 
 use crate::ranges::{
-    ENTRIES_REFUSED, FUEL_REFUSED, LEAST_THREADS, MOST_ENTRIES, MOST_NODES, MOST_RESTARTS,
-    MOST_SECONDS, MOST_THREADS, MOST_TURNS, MOST_WORKERS, NODES_REFUSED, RESTARTS_REFUSED,
-    SECONDS_REFUSED, SEED_REFUSED, THREADS_REFUSED, TURNS_REFUSED, WORKERS_REFUSED,
+    ENTRIES_REFUSED, FUEL_REFUSED, LEAST_THREADS, MEGABYTES_REFUSED, MOST_ENTRIES, MOST_MEGABYTES,
+    MOST_NODES, MOST_RESTARTS, MOST_SECONDS, MOST_THREADS, MOST_TURNS, MOST_WORKERS, NODES_REFUSED,
+    RESTARTS_REFUSED, SECONDS_REFUSED, SEED_REFUSED, THREADS_REFUSED, TURNS_REFUSED,
+    WORKERS_REFUSED,
 };
 use clap::ArgMatches;
 
@@ -154,6 +155,19 @@ pub fn seconds(inner: &ArgMatches<'_>) -> Option<Option<u32>>
     number_within(inner, "seconds", 1, MOST_SECONDS)
 }
 
+/// Returns how many megabytes the books of all sites may take, from 1 to 1,000,000, if that is given; none where the value is out of this
+/// range.
+pub fn megabytes(inner: &ArgMatches<'_>) -> Option<Option<u32>>
+    ensures given { IfSome result (SpellsIf (first_value (found_of inner.now) (codes "megabytes"))) }
+    ensures some { IfSome result (λ megabytes. ForSome megabytes (λ megabytes. 1 ≤ megabytes)) }
+    ensures most { IfSome result (λ megabytes. ForSome megabytes (λ megabytes. megabytes ≤ 1000000)) }
+    ensures none { IfNone result ((megabytes : Option ℕ) →
+        SpellsIf (first_value (found_of inner.now) (codes "megabytes")) megabytes →
+        ForSome megabytes (λ n. 1 ≤ n) → ForSome megabytes (λ n. n ≤ 1000000) → ⊥) }
+{
+    number_within(inner, "megabytes", 1, MOST_MEGABYTES)
+}
+
 /// Returns how many threads may work at once, from 2 to 10, if that is given; none where the value is out of this range.
 pub fn threads(inner: &ArgMatches<'_>) -> Option<Option<u32>>
     ensures given { IfSome result (SpellsIf (first_value (found_of inner.now) (codes "threads"))) }
@@ -194,6 +208,9 @@ pub fn out_of_range(inner: &ArgMatches<'_>) -> &'static str {
     }
     if entries(inner).is_none() {
         return ENTRIES_REFUSED;
+    }
+    if megabytes(inner).is_none() {
+        return MEGABYTES_REFUSED;
     }
     if restarts(inner).is_none() {
         return RESTARTS_REFUSED;

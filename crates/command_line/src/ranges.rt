@@ -53,6 +53,16 @@ pub const ENTRIES_HELP: &str = "How many entries the book of a site may have, 1 
 /// What is written of a `--entries` outside.
 pub const ENTRIES_REFUSED: &str = "--entries takes 1 to 1000000000";
 
+/// `--megabytes` of all books together, from 1; a share of the machine's memory where none are given.
+pub const MOST_MEGABYTES: u64 = 1_000_000;
+
+/// What help says of `--megabytes`.
+pub const MEGABYTES_HELP: &str =
+    "How many megabytes the books of all sites may take together, 1 to 1000000; a tenth of the machine's memory if not given";
+
+/// What is written of a `--megabytes` outside.
+pub const MEGABYTES_REFUSED: &str = "--megabytes takes 1 to 1000000";
+
 /// `--restarts`, from 0.
 pub const MOST_RESTARTS: u64 = 100;
 

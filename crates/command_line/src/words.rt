@@ -7,7 +7,8 @@ ghost use Rattle.command_line.specs.CommandLine.{AreMet, AreSpelled, IsAnswerFil
 use crate::commands::{solver_command, value_error};
 use crate::fault::{SettingsFault, fault_of};
 use crate::numbers::{
-    entries, fuel, nodes, number_or, out_of_range, restarts, seconds, threads, turns, workers,
+    entries, fuel, megabytes, nodes, number_or, out_of_range, restarts, seconds, threads, turns,
+    workers,
 };
 use clap::error::ErrorKind;
 use clap::{ArgMatches, Command};
@@ -114,6 +115,7 @@ fn requested<'a>(name: &'a str, inner: &ArgMatches<'a>) -> Option<Request<'a>>
     Some(Request {
         settings: spelled(name, inner)?,
         seconds: seconds(inner)?,
+        megabytes: megabytes(inner)?,
         progress: is_set(inner, "progress"),
         unlimited: is_set(inner, "unlimited"),
         threads: threads(inner)?,

@@ -34,6 +34,9 @@ fn why_it_ended(end: &SiteEnd) -> &'static str {
     match end.cause {
         EndCause::Over => "the search is over",
         EndCause::BookFull => "a book is full: try more --entries, or answer",
+        EndCause::BooksFull => {
+            "the books are as large as they may be: try more --megabytes, or answer"
+        }
         EndCause::Faults => "a socket failed: try again, or answer",
         EndCause::Memory => "out of memory: try fewer --nodes or --workers",
         EndCause::Silence => "a site heard nothing for long: try again, or answer",

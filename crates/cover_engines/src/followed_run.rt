@@ -19,7 +19,7 @@ use udp_node::{Follower, Gate, SiteEnd};
 pub struct FollowedRun<'a, E: Sink, R: Wait + Clock> {
     rt: &'a R,
     overcounts: Overcounts,
-    /// How full the fullest book is, in percent.
+    /// How full the fullest book is, in percent: of the entries that it may have, or of the bytes that the books of all sites may take.
     fullest: AtomicU64,
     state: Mutex<State<'a, E>>,
 }
@@ -64,6 +64,13 @@ impl<'a, E: Sink, R: Wait + Clock> FollowedRun<'a, E, R> {
             fullest: AtomicU64::new(0),
             state: Mutex::new(state),
         })
+    }
+
+    /// Notes that a book has so much of what it may have at most.
+    fn fill(&self, part: u64, most: u64) {
+        let percent = part.saturating_mul(100) / most.max(1);
+        // (beside the lock, since each event of the threads of all nodes comes here)
+        self.fullest.fetch_max(percent, Ordering::SeqCst);
     }
 
     /// Writes how far the run has come, and how full the fullest book is.
@@ -146,9 +153,11 @@ impl<'a, E: Sink, R: Wait + Clock> Follower for FollowedRun<'a, E, R> {
     }
 
     fn recorded(&self, entries: u64, most: u64) {
-        let percent = entries.saturating_mul(100) / most.max(1);
-        // (beside the lock, since each event of the threads of all nodes comes here)
-        self.fullest.fetch_max(percent, Ordering::SeqCst);
+        self.fill(entries, most);
+    }
+
+    fn grown(&self, bytes: u64, most: u64) {
+        self.fill(bytes.min(most), most);
     }
 
     fn ended(&self, _node: u8, end: &SiteEnd) {

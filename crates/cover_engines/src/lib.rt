@@ -6,6 +6,7 @@ mod audited;
 mod end_causes;
 mod followed_run;
 mod machine;
+mod memory_share;
 mod network;
 mod overcounts;
 mod quiet_run;
@@ -15,6 +16,7 @@ mod solve;
 pub use audited::{AuditFinding, write_audited};
 pub use followed_run::FollowedRun;
 pub use machine::{Machine, names_of};
+pub use memory_share::{USUAL_BOOK_BYTES, book_bytes_of};
 pub use network::{Loopback, Network, NetworkFault};
 pub use quiet_run::QuietRun;
 pub use search_engines::{

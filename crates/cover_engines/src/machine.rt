@@ -22,6 +22,9 @@ use std::sync::Wait;
 use std::thread::Threads;
 use std::time::{Clock, Duration};
 
+/// How many bytes a megabyte of a request has.
+const MEGABYTE: u64 = 1_000_000;
+
 /// What `solve` runs on.
 #[derive(Drop)]
 pub struct Machine<'a, N: Network, R: Threads + Wait + Clock + Sync> {
@@ -33,6 +36,8 @@ pub struct Machine<'a, N: Network, R: Threads + Wait + Clock + Sync> {
     pub network: N,
     /// How its lines of progress follow one another.
     pub lines: LineStyle,
+    /// How many bytes the books of a run may take together where the request doesn't say.
+    pub book_bytes: u64,
 }
 
 impl<N: Network, R: Threads + Wait + Clock + Sync> Machine<'_, N, R> {
@@ -123,7 +128,7 @@ impl<N: Network, R: Threads + Wait + Clock + Sync> Machine<'_, N, R> {
             (W.contents sink.old) (W.contents sink.new) result }
         ensures failed { result ≡ Err EngineFault.Write → W.failed sink.new ≡ failed_once (W.failed sink.old) }
     {
-        let task = task_of(request, read);
+        let task = task_of(request, read, self.book_bytes);
         let quiet = QuietRun::new(self.rt, &mut *errors);
         let solved = solve_problem(self.rt, self.alloc, task, links, &quiet, sink);
         let reason = quiet.reason();
@@ -152,7 +157,7 @@ impl<N: Network, R: Threads + Wait + Clock + Sync> Machine<'_, N, R> {
         ensures failed { result ≡ Err EngineFault.Write → W.failed sink.new ≡ failed_once (W.failed sink.old) }
     {
         let (rt, alloc) = (self.rt, self.alloc);
-        let task = task_of(request, read);
+        let task = task_of(request, read, self.book_bytes);
         let log = ProgressLog::new(&mut *errors, self.lines);
         let Ok(followed) = FollowedRun::new(rt, alloc, task.problem, log) else {
             return Err(EngineFault::Memory);
@@ -175,8 +180,8 @@ pub fn names_of<'a>(settings: &Settings<'a>) -> InputNames<'a> {
     }
 }
 
-/// The problem that was read, to be searched as the request has it.
-fn task_of<'a>(request: &'a Request<'_>, read: &'a Read) -> SolveTask<'a>
+/// The problem that was read, to be searched as the request has it, and by books of so many bytes where it doesn't say of how many.
+fn task_of<'a>(request: &'a Request<'_>, read: &'a Read, book_bytes: u64) -> SolveTask<'a>
     ensures settings { result.settings.now ≡ request.now.settings }
     ensures problem { result.problem.now ≡ read.now.problem }
 {
@@ -184,6 +189,17 @@ fn task_of<'a>(request: &'a Request<'_>, read: &'a Read) -> SolveTask<'a>
         problem: &read.problem,
         settings: &request.settings,
         limit: limit_of(request),
+        book_bytes: bound_of(request, book_bytes),
+    }
+}
+
+/// How many bytes the books of a run may take together: so many where the request doesn't say.
+fn bound_of(request: &Request<'_>, book_bytes: u64) -> u64
+    ensures { MatchOption request.now.megabytes (result ≡ book_bytes) (λ megabytes. result ≡ megabytes * 1000000) }
+{
+    match request.megabytes {
+        Some(megabytes) => u64::from(megabytes) * MEGABYTE,
+        None => book_bytes,
     }
 }
 

@@ -8,6 +8,7 @@ ghost use Rattle.cover_engines.specs.Solve.{run_of, RunSays};
 ghost use Rattle.dlx_reader.specs.Devices.{failed_once};
 
 use crate::audited::write_audited;
+use crate::memory_share::USUAL_BOOK_BYTES;
 use audit::audit;
 use cover_problem::{Answer, Problem};
 use dlx_reader::Sink;
@@ -30,6 +31,8 @@ pub struct SolveTask<'a> {
     pub settings: &'a Settings<'a>,
     /// How long the run may last, if it is limited.
     pub limit: Option<Duration>,
+    /// How many bytes the books of all sites may take together.
+    pub book_bytes: u64,
 }
 
 /// How a run ended.
@@ -42,7 +45,7 @@ pub struct SolveEnd<J: Run> {
 }
 
 /// Lets the registry and as many nodes as the settings have search a problem over these links, the registry's first, each with
-/// threads of its own; node 1 restarts as often as they say. The only fault is `Memory`: the run itself ran out of it,
+/// threads of its own; node 1 restarts as often as they say. Their books may take `USUAL_BOOK_BYTES` together. The only fault is `Memory`: the run itself ran out of it,
 /// or a site did and there is no answer.
 pub fn solve_engine<
     J: Run + Send + Sync,
@@ -67,6 +70,7 @@ pub fn solve_engine<
         problem,
         settings,
         limit: None,
+        book_bytes: USUAL_BOOK_BYTES,
     };
     solve_within(rt, alloc, task, links, hooks)
 }
@@ -116,6 +120,7 @@ fn plan_of(task: &SolveTask<'_>) -> Plan
       turns = task.now.settings.now.turns;
       timing = Timing.USUAL;
       entries = task.now.settings.now.entries;
+      book_bytes = task.now.book_bytes;
       restarts = task.now.settings.now.restarts;
       limit = task.now.limit;
     } }
@@ -129,6 +134,7 @@ fn plan_of(task: &SolveTask<'_>) -> Plan
         turns: u64::from(settings.turns),
         timing: Timing::USUAL,
         entries: u64::from(settings.entries),
+        book_bytes: task.book_bytes,
         // (at most 100 by the type of the settings)
         restarts: settings.restarts as u8,
         limit: task.limit,

@@ -22,7 +22,7 @@ use udp_node::{MemoryLink, Open, Wires};
 /// How many visits the first jobs of a run may take, as many as of `solve` by default.
 const FUEL: u64 = 1_000;
 
-/// How many entries a site's book may have: at some hundred bytes each it takes a tenth of a gigabyte at most.
+/// How many entries a site's book may have. Both books may take `USUAL_BOOK_BYTES` together.
 const ENTRIES: u32 = 1_000_000;
 
 /// The settings of a run of one node with so many workers.

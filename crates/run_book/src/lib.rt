@@ -2,6 +2,7 @@
 #![tactic(auto)]
 
 mod book;
+mod book_room;
 mod cell_parts;
 mod entry;
 mod fault;

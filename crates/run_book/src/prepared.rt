@@ -128,5 +128,7 @@ fn copied(numbers: &[u16], room: Vec<u16>) -> Numbers
     for number in numbers {
         copy.push_reserved(*number);
     }
+    // (the book keeps it, and the room is for the longest prefix that there may be)
+    copy.shrink_to_fit();
     Numbers::from_vec(copy)
 }

@@ -160,7 +160,8 @@ impl<J: Run, C: Core + Drop, N: CellName> RecordedCore<J, C, N> {
         self.seats.bound(seat);
         let Acted { entry, for_caller } = act_on(&mut self.core, prepared)?;
         let entry = self.repeated.shared(entry);
-        let receipt = self.register.enter(place, &entry, for_caller);
+        let bytes = self.repeated.last_bytes(&entry);
+        let receipt = self.register.enter(place, &entry, for_caller, bytes);
         self.entries.push_reserved(entry);
         self.seats.count(seat);
         Ok(receipt)

@@ -23,6 +23,8 @@ pub struct Receipt<N: CellName> {
     pub reply: Reply,
     /// The packets that were put out, in their order.
     pub packets: Vec<Packet>,
+    /// How many bytes the entry takes in the book: little where an equal entry is there already, whose memory it shares.
+    pub bytes: u64,
     token: Token,
     room: PhantomData<N>,
 }
@@ -73,6 +75,7 @@ impl<N: CellName> Receipt<N> {
             event,
             reply,
             packets,
+            bytes: _,
             token,
             room,
         } = self;
@@ -121,8 +124,8 @@ impl<N: CellName> Register<N> {
         }
     }
 
-    /// Enters an entry at the end of the log, and gives its receipt, which is told the same.
-    pub fn enter(&mut self, place: u64, entry: &Entry, step: Step) -> Receipt<N>
+    /// Enters an entry at the end of the log, which takes so many bytes, and gives its receipt, which is told the same.
+    pub fn enter(&mut self, place: u64, entry: &Entry, step: Step, bytes: u64) -> Receipt<N>
         requires next { place ≡ length self.old.log }
         requires same { step ≡ entry.now }
         ensures receipt { result ≡ record { place = place; entry = entry.now } }
@@ -141,6 +144,7 @@ impl<N: CellName> Register<N> {
             event,
             reply,
             packets,
+            bytes,
             token,
             room: PhantomData,
         }

@@ -1,5 +1,6 @@
 ghost use Rattle.std.specs.Prelude.{◌≡◌, IfSome};
 
+use crate::book_room::entry_bytes;
 use crate::entry::Entry;
 use std::alloc::Global;
 
@@ -13,6 +14,8 @@ pub struct Repeated {
     entries: Vec<Entry>,
     /// What the site said again last.
     again: Option<Entry>,
+    /// Whether the last entry shares its step with an earlier one.
+    is_shared: bool,
 }
 
 impl Repeated {
@@ -21,13 +24,20 @@ impl Repeated {
         Repeated {
             entries: Vec::new(alloc),
             again: None,
+            is_shared: false,
         }
+    }
+
+    /// How many bytes the entry that came last takes in its book.
+    pub fn last_bytes(&self, last: &Entry) -> u64 {
+        entry_bytes(last.step(), self.is_shared)
     }
 
     /// The entry; one that may be repeated shares its step with each equal one, or with the last if it is what is said again.
     pub fn shared(&mut self, entry: Entry) -> Entry
         ensures { result ≡ entry }
     {
+        self.is_shared = false;
         // (its packets change with what is out, so it is compared with the last alone, and takes no place from idle steps)
         if entry.step().is_again() {
             return self.shared_again(entry);
@@ -36,6 +46,7 @@ impl Repeated {
             return entry;
         }
         if let Some(twin) = self.twin(&entry) {
+            self.is_shared = true;
             return twin;
         }
         self.keep(&entry);
@@ -50,6 +61,7 @@ impl Repeated {
             && last.step().is_same(entry.step())
             && let Ok(twin) = last.twin()
         {
+            self.is_shared = true;
             return twin;
         }
         self.again = entry.twin().ok();

@@ -4,6 +4,7 @@ use node_core::{Event, Reply};
 use packet_wire::{Body, Packet};
 use std::alloc::Global;
 use std::marker::Model;
+use std::mem::size_of;
 
 /// What happened at a site: an event, with its reply and the packets that were put out.
 #[derive(Debug, Drop)]
@@ -57,6 +58,11 @@ impl Step {
         ensures { result.now ≡ self.now.packets }
     {
         self.packets.as_slice()
+    }
+
+    /// How many bytes of room its list of packets has.
+    pub(crate) fn packet_room(&self) -> usize {
+        self.packets.capacity().saturating_mul(size_of::<Packet>())
     }
 
     /// What it came to, by itself.

@@ -12,6 +12,9 @@ pub struct Request<'a> {
     pub settings: Settings<'a>,
     /// After how many seconds a search by one thread, or a run over sockets, ends, from 1 to 1,000,000; none for no limit.
     pub seconds: Option<u32>,
+    /// How many megabytes, of a million bytes, the books of a run over sockets may take together, from 1 to 1,000,000; none for a share of the
+    /// machine's memory.
+    pub megabytes: Option<u32>,
     /// Whether it writes how far its search has come.
     pub progress: bool,
     /// Whether a search by one thread has no limit of visits.
@@ -24,6 +27,8 @@ pub struct Request<'a> {
     pub certificate: Option<&'a str>,
     pub ghost some_seconds: { ForSome seconds (λ seconds. 1 ≤ seconds) },
     pub ghost most_seconds: { ForSome seconds (λ seconds. seconds ≤ 1000000) },
+    pub ghost some_megabytes: { ForSome megabytes (λ megabytes. 1 ≤ megabytes) },
+    pub ghost most_megabytes: { ForSome megabytes (λ megabytes. megabytes ≤ 1000000) },
     pub ghost some_threads: { ForSome threads (λ threads. 2 ≤ threads) },
     pub ghost most_threads: { ForSome threads (λ threads. threads ≤ 10) },
 }

@@ -1,8 +1,8 @@
 //! A watch that lets a search rest now and then, and looks for a reason meanwhile.
 //!
 //! So a reason of a small problem is found after a hundredth of a second, and one that takes long in a search that takes far longer, and no
-//! search is begun again for it. What it costs is a thousandth of a second at first, and then a 64th of the search's time at the most, each time
-//! it looks: with times four times as long from one to the next, a 48th of all.
+//! search is begun again for it. What it costs is a thousandth of a second at first, and then an 80th of the search's time at the most, each time
+//! it looks: with times four times as long from one to the next, a 60th of all.
 
 ghost use Rattle.std.specs.Prelude.{◌≡◌, [], true, None, IfSome};
 ghost use Rattle.cover_problem.specs.Search.{first};
@@ -26,7 +26,7 @@ pub(crate) const EARLY: u64 = 10;
 pub(crate) const LATE: u64 = 640;
 
 /// Which part of a search's time goes by at most while a reason is looked for.
-const PART: u64 = 64;
+const PART: u64 = 80;
 
 /// How many options a problem has at most of which a reason is looked for at `EARLY`: of one with more, the first look at all options takes
 /// longer than a thousandth of a second.

@@ -5,6 +5,8 @@ pub enum EndCause {
     Over,
     /// The site's book has as many entries as it may have.
     BookFull,
+    /// The books of all sites take as many bytes as they may together.
+    BooksFull,
     /// A hundred receives in a row failed.
     Faults,
     /// Memory ran out.

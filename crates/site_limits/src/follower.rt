@@ -16,6 +16,9 @@ pub trait Follower {
     /// A site's book has so many entries, of so many at most.
     fn recorded(&self, _entries: u64, _most: u64) {}
 
+    /// The books of all sites take so many bytes together, of so many at most.
+    fn grown(&self, _bytes: u64, _most: u64) {}
+
     /// The run ends with the site of this node, which ended so.
     fn ended(&self, _node: u8, _end: &SiteEnd) {}
 

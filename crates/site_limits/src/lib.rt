@@ -2,6 +2,7 @@
 //! by itself, and why it ends. It needs no core, so that it is proved beside the cores.
 #![tactic(auto)]
 
+mod book_bytes;
 mod end_cause;
 mod ending;
 mod follower;
@@ -14,6 +15,7 @@ mod site_end;
 mod timing;
 mod turn;
 
+pub use book_bytes::BookBytes;
 pub use end_cause::EndCause;
 pub use ending::Ending;
 pub use follower::Follower;

@@ -18,6 +18,8 @@ pub struct Plan {
     pub timing: Timing,
     /// How many entries the book of a site may have, at least 1.
     pub entries: u64,
+    /// How many bytes the books of all sites may take together.
+    pub book_bytes: u64,
     /// How often node 1 restarts.
     pub restarts: u8,
     /// How long the run may last, if it is limited.

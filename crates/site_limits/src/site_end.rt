@@ -37,6 +37,7 @@ impl SiteEnd {
             EndCause::Over => node == 0,
             EndCause::Memory => true,
             EndCause::BookFull
+            | EndCause::BooksFull
             | EndCause::Faults
             | EndCause::Silence
             | EndCause::Time

@@ -18,8 +18,9 @@ pub use cover_engines::{
     simulate_engine, solve_engine, tell, tell_fault,
 };
 use cover_engines::{
-    EngineEnd, Failure, LineStyle, Loopback, Machine, ProgressLog, SearchLimits, TimeLimit, Unread,
-    alone_within, check_within, names_of, read_input, simulate_source, tell_end_of,
+    EngineEnd, Failure, LineStyle, Loopback, Machine, ProgressLog, SearchLimits, TimeLimit,
+    USUAL_BOOK_BYTES, Unread, alone_within, book_bytes_of, check_within, names_of, read_input,
+    simulate_source, tell_end_of,
     tell_unanswered, tell_unopened,
 };
 use dlx_reader::{CountedReader, CountedWriter, Sink};
@@ -30,7 +31,7 @@ pub use reason_engine::{WhyEnd, why_engine};
 pub use run_settings::{Mode, Settings};
 use run_settings::{Request, STANDARD_INPUT};
 use std::env;
-use std::fs::File;
+use std::fs::{self, File};
 use std::io::{self, ErrorKind, IsTerminal, Stdin, Stdout};
 use std::net::Net;
 use std::process::ExitCode;
@@ -219,6 +220,17 @@ fn run_learn<E: Sink>(
     ended
 }
 
+/// Where the system says how much memory the machine has.
+const MEMORY_INFO: &str = "/proc/meminfo";
+
+/// How many bytes the books of a run may take on this machine where nothing else is asked for.
+fn book_bytes(rt: &HostRuntime) -> u64 {
+    match fs::read_to_string(rt, MEMORY_INFO) {
+        Ok(text) => book_bytes_of(&text),
+        Err(_) => USUAL_BOOK_BYTES,
+    }
+}
+
 /// Lets sites search the problem in a source, and returns the exit status.
 fn run_solve<E: Sink + Send, R: Threads + Wait + Clock + Net + Sync>(
     rt: &HostRuntime,
@@ -235,6 +247,7 @@ fn run_solve<E: Sink + Send, R: Threads + Wait + Clock + Net + Sync>(
             random: rt,
         },
         lines: line_style(rt, request.progress),
+        book_bytes: book_bytes(rt),
     };
     machine.solve(request, source, &mut output(rt), errors)
 }

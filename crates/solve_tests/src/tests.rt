@@ -9,13 +9,14 @@ mod audited;
 mod followed;
 mod held;
 mod machine;
+mod memory_share;
 mod order;
 mod sole;
 mod starved;
 
 ghost use Rattle.std.specs.Prelude.{◌≡◌, ◌≤◌};
 
-use cover_engines::{LineStyle, Loopback, Machine, Network, links, solve_engine};
+use cover_engines::{LineStyle, Loopback, Machine, Network, USUAL_BOOK_BYTES, links, solve_engine};
 use cover_problem::Problem;
 use dlx_reader::{CountedReader, CountedWriter, read_problem};
 use run_book::Run;
@@ -117,13 +118,25 @@ struct Solved {
     status: u8,
 }
 
-/// Runs `solve` over this network, by the call that the program makes.
+/// Runs `solve` over this network, by the call that the program makes, on a machine on which the books of a run may take a gigabyte.
 fn solve_over<N: Network, R: Threads + Wait + Clock + Sync>(
     rt: &R,
     alloc: Global,
     network: N,
     text: &str,
     request: &Request<'_>,
+) -> Solved {
+    solve_on(rt, alloc, network, text, request, USUAL_BOOK_BYTES)
+}
+
+/// The same on a machine on which the books of a run may take so many bytes.
+fn solve_on<N: Network, R: Threads + Wait + Clock + Sync>(
+    rt: &R,
+    alloc: Global,
+    network: N,
+    text: &str,
+    request: &Request<'_>,
+    book_bytes: u64,
 ) -> Solved {
     let (mut out, mut errors) = (Vec::new(alloc), Vec::new(alloc));
     let mut source = CountedReader::new(text.as_bytes());
@@ -132,6 +145,7 @@ fn solve_over<N: Network, R: Threads + Wait + Clock + Sync>(
         alloc,
         network,
         lines: LineStyle::Listed,
+        book_bytes,
     };
     let status = machine.solve(
         request,
@@ -156,6 +170,7 @@ fn solve<R: Threads + Wait + Clock + Net + RandomSource + Sync>(
     let request = Request {
         settings,
         seconds: None,
+        megabytes: None,
         progress: false,
         unlimited: false,
         threads: None,
@@ -245,6 +260,7 @@ fn a_run_in_which_states_repeat_ends(rt: HostRuntime) {
     let request = Request {
         settings: BOUNDED,
         seconds: None,
+        megabytes: None,
         progress: false,
         unlimited: false,
         threads: None,

@@ -52,17 +52,16 @@ impl<'a, J: Run, C: Core + Drop, N: CellName, H: Gate + Follower> Actor<'a, J, C
         ensures lawful { IfOk result (λ entry. IsLawful J.run.problem entry) }
         ensures back { IfErr result (λ back. back.0 ≡ event) }
     {
+        if self.shared.context.books.are_full() {
+            return Err((event, Refused::BooksFull));
+        }
         let stirs = may_stir(&event);
         let is_again = matches!(event, Event::Again);
         let step = self.receipts.act(rt, self.shared.cell, event)?;
-        let shared = self.shared;
-        shared
-            .context
-            .hooks
-            .recorded(self.receipts.entries(), shared.plan.entries);
+        self.count();
         self.signal(&step, stirs);
         if !is_again && step.packets().iter().any(needs_answer) {
-            shared.signals.say();
+            self.shared.signals.say();
         }
         self.put_all(rt, step.packets());
         Ok(step)
@@ -71,6 +70,17 @@ impl<'a, J: Run, C: Core + Drop, N: CellName, H: Gate + Follower> Actor<'a, J, C
     /// Its seat and receipts.
     pub fn into_receipts(self) -> SeatReceipts<N> {
         self.receipts
+    }
+
+    /// Counts the bytes of the entry that was made last, and tells who follows the run how full the books are.
+    fn count(&self) {
+        let (context, plan) = (self.shared.context, self.shared.plan);
+        let books = context.books;
+        books.add(self.receipts.last_bytes());
+        context
+            .hooks
+            .recorded(self.receipts.entries(), plan.entries);
+        context.hooks.grown(books.taken(), books.most());
     }
 
     /// Signals to the other threads of the site what came of an event: that there may be something to do, or that work is short.

@@ -2,7 +2,7 @@ ghost use Rattle.std.specs.Prelude.{◌≡◌};
 
 use brancher::Tables;
 use run_book::Run;
-use site_limits::{Ending, Follower, Gate};
+use site_limits::{BookBytes, Ending, Follower, Gate};
 use std::alloc::Global;
 use std::marker::PhantomData;
 
@@ -15,6 +15,8 @@ pub struct Context<'a, J: Run, H: Gate + Follower> {
     pub hooks: &'a H,
     /// What ends the run: then each site ends, too.
     pub ending: &'a Ending,
+    /// How large the books of all sites are.
+    pub books: &'a BookBytes,
     /// Where memory comes from.
     pub alloc: Global,
     /// The run's name.

@@ -36,6 +36,8 @@ pub use savings::{Savings, Shown};
 pub use schedule::Schedule;
 pub use seat_receipts::SeatReceipts;
 pub use signals::Signals;
-pub use site_limits::{EndCause, Follower, Gate, Hunger, Open, Pace, Plan, Quota, SiteEnd, Timing};
+pub use site_limits::{
+    BookBytes, EndCause, Follower, Gate, Hunger, Open, Pace, Plan, Quota, SiteEnd, Timing,
+};
 pub use site_network::{Link, LinkFault, MemoryLink, Sockets, UdpLink, Wires, bound};
 pub use worker::room_for;

@@ -19,7 +19,7 @@ use brancher::Tables;
 use cover_problem::Problem;
 use node_core::Core;
 use run_book::{CellName, Outbox, Run, SiteCell};
-use site_limits::{EndCause, Ending, Follower, Gate, Limits, Open, Plan, SiteEnd};
+use site_limits::{BookBytes, EndCause, Ending, Follower, Gate, Limits, Open, Plan, SiteEnd};
 use site_network::Link;
 use std::alloc::{AllocError, Global};
 use std::marker::PhantomData;
@@ -165,10 +165,12 @@ pub fn run_node<
         return NodeEnd::starved(alloc);
     };
     let ending = Ending::unlimited();
+    let books = BookBytes::new(plan.book_bytes);
     let context = Context {
         tables: &tables,
         hooks,
         ending: &ending,
+        books: &books,
         alloc,
         run: PhantomData,
     };
@@ -201,10 +203,12 @@ pub fn run_root<
     let plan = Plan { workers: 0, ..plan };
     let tables = Tables::of_links(problem);
     let ending = Ending::unlimited();
+    let books = BookBytes::new(plan.book_bytes);
     let context = Context {
         tables: &tables,
         hooks: &Open,
         ending: &ending,
+        books: &books,
         alloc,
         run: PhantomData,
     };

@@ -13,7 +13,7 @@ use crate::site_run::{RunContext, SiteRun};
 use brancher::Tables;
 use cover_problem::{Answer, Problem};
 use run_book::{Book, Run, published};
-use site_limits::{Ending, Follower, Gate, Plan, SiteEnd};
+use site_limits::{BookBytes, Ending, Follower, Gate, Plan, SiteEnd};
 use site_network::Link;
 use std::alloc::{AllocError, Global};
 use std::marker::PhantomData;
@@ -43,6 +43,8 @@ pub struct RunEnd<J: Run> {
 /// A limited run ends soon after so much time has passed since the call, as each site looks at the clock before it receives. What the
 /// registry published by then is the answer.
 ///
+/// The books of all sites are bounded together, in bytes, and each by itself, in entries. Where a bound is met, that site ends.
+///
 /// All sites end where one has failed: with any cause but that the search is over, once a thread of each kind has begun there. A site
 /// that had no memory to start or to close has no book.
 ///
@@ -71,6 +73,7 @@ pub fn run_sites<
     ensures { IfOk result (λ end. IsRunEnd J.run end.answer end.books.items) }
 {
     let ending = Ending::within(rt, plan.limit, plan.nodes);
+    let book_bytes = BookBytes::new(plan.book_bytes);
     // (the name of a run promises a lawful problem, which only a look inside shows to the prover)
     problem.recall_rules();
     let tables = Tables::build(alloc, problem)?;
@@ -78,6 +81,7 @@ pub fn run_sites<
         tables: &tables,
         hooks,
         ending: &ending,
+        books: &book_bytes,
         alloc,
         run: PhantomData,
     };

@@ -14,6 +14,8 @@ pub struct SeatReceipts<N: CellName> {
     tokens: Vec<ReceiptToken<N>>,
     /// How many entries the cell's book had after its last event.
     entries: u64,
+    /// How many bytes its last entry takes.
+    last_bytes: u64,
     ghost counted: { seat ≡ vec_len tokens },
 }
 
@@ -22,6 +24,8 @@ pub struct SeatReceipts<N: CellName> {
 pub enum Refused {
     /// There is no memory for one receipt more.
     NoRoom,
+    /// The books of the run are as large as they may be.
+    BooksFull,
     /// The cell has refused it.
     Cell(BookFault),
 }
@@ -38,6 +42,7 @@ impl<N: CellName> SeatReceipts<N> {
             seat,
             tokens: Vec::new(alloc),
             entries: 0,
+            last_bytes: 0,
         })
     }
 
@@ -64,6 +69,7 @@ impl<N: CellName> SeatReceipts<N> {
             Ok(receipt) => {
                 // (the receipt knows its place, so nobody takes the lock to ask how long the book is)
                 self.entries = receipt.place.saturating_add(1);
+                self.last_bytes = receipt.bytes;
                 let (receipt_token, step) = receipt.into_parts();
                 self.tokens.push_reserved(receipt_token);
                 Ok(step)
@@ -75,6 +81,11 @@ impl<N: CellName> SeatReceipts<N> {
     /// How many entries the cell's book had after the last event of this seat.
     pub fn entries(&self) -> u64 {
         self.entries
+    }
+
+    /// How many bytes the last entry of this seat takes in the cell's book.
+    pub fn last_bytes(&self) -> u64 {
+        self.last_bytes
     }
 
     /// How many receipts it has.

@@ -369,6 +369,7 @@ pub fn room_for(plan: Plan) -> u64 {
 pub fn after_refusal(refused: Refused) -> Turn {
     match refused {
         Refused::NoRoom => Turn::Ended(EndCause::Memory),
+        Refused::BooksFull => Turn::Ended(EndCause::BooksFull),
         Refused::Cell(BookFault::BookFull(_)) => Turn::Ended(EndCause::BookFull),
         Refused::Cell(BookFault::Core(ActFault::Over)) => Turn::Ended(EndCause::Over),
         Refused::Cell(BookFault::Memory) => Turn::Starved,

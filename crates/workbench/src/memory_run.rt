@@ -27,6 +27,7 @@ pub fn plan_of(nodes: &str, workers: &str, seed: &str, fuel: &str, turns: &str) 
         turns: turns.parse::<u64>().ok()?,
         timing: Timing::USUAL,
         entries: 1_000_000,
+        book_bytes: 1_000_000_000,
         restarts: 0,
         limit: None,
     })

@@ -27,7 +27,7 @@ def check(problem: Lines, reason: Lines) -> str:
     items, *options = [words for words in problem if words and not words[0].startswith(b"|")]
     bar = next((place for place, word in enumerate(items) if word.startswith(b"|")), len(items))
     primary = set(items[:bar])
-    options = [option for option in options if primary.intersection(option)]    # the others are in no cover
+    options = [option for option in options if primary.intersection(option)]    # a line without a primary item is no option of a problem
     lines = reason[1:]
     if lines[0] == [b"cliques"]:
         end = next(place for place, words in enumerate(lines) if place and words[0] != b"clique")

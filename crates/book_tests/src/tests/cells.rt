@@ -1,4 +1,6 @@
 //! Cells of a node, from their opening to their book.
+//!
+//! Of the bugs of `run_book` that are kept outside the gate, `seat_places_rise` finds `shared_entries_count_whole`.
 
 ghost use Rattle.std.specs.Prelude.{◌≡◌, ◌≤◌, IfSome};
 ghost use Rattle.node_core.specs.Refusal.{IsFit};
@@ -199,6 +201,14 @@ fn are_first_two<N: CellName>(receipts: &[Receipt<N>]) -> bool {
     }
 }
 
+/// Whether the second entry takes less than the first: it shares the step.
+fn are_shared<N: CellName>(receipts: &[Receipt<N>]) -> bool {
+    match receipts {
+        [first, second] => 0 < second.bytes && second.bytes < first.bytes,
+        _ => false,
+    }
+}
+
 /// Whether these are two Greets of the node.
 fn are_greets(entries: &[Entry]) -> bool {
     match entries {
@@ -218,7 +228,7 @@ fn two<J: Run, C: Core + Drop, N: CellName, R: Wait>(
         mut receipts,
         rising,
     } = greeted_twice(rt, alloc, &cell)?;
-    let are_first = are_first_two(&receipts);
+    let are_first = are_first_two(&receipts) && are_shared(&receipts);
     let later = receipts.pop()?;
     let book = late_book(alloc, cell, seat, receipts, later)?;
     Some(rising && are_first && book.site() == HERE && are_greets(book.entries()))

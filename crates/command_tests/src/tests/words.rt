@@ -214,6 +214,29 @@ fn reads_how_long_a_search_may_last(rt: HostRuntime) {
     }
 }
 
+/// Words that say how many megabytes the books of a run may take, or don't.
+static MEGABYTES: [(&[&str], Option<u32>); 5] = [
+    (&["solve_cli", "solve", "a.dlx"], None),
+    (
+        &["solve_cli", "solve", "a.dlx", "--megabytes", "1"],
+        Some(1),
+    ),
+    (
+        &["solve_cli", "solve", "--megabytes=1000000", "a.dlx"],
+        Some(1_000_000),
+    ),
+    (&["solve_cli", "solve", "--", "--megabytes"], None),
+    (&["solve_cli", "answer", "a.dlx"], None),
+];
+
+#[test]
+fn reads_how_large_books_may_be(rt: HostRuntime) {
+    for (words, megabytes) in MEGABYTES.iter() {
+        let request = request(rt.alloc(), words).expect(&rt, "lawful words");
+        assert!(rt; request.megabytes == *megabytes);
+    }
+}
+
 /// Words that say how many threads may work, or don't.
 static THREADS: [(&[&str], Option<u32>); 4] = [
     (&["solve_cli", "answer", "a.dlx"], None),
@@ -329,7 +352,7 @@ fn reads_whether_there_is_a_limit(rt: HostRuntime) {
 }
 
 /// Each with the status.
-static WORDS: [(&[&str], u8); 80] = [
+static WORDS: [(&[&str], u8); 87] = [
     (&["solve_cli"], 2),
     (&["solve_cli", "--help"], 0),
     (&["solve_cli", "--version"], 0),
@@ -359,6 +382,13 @@ static WORDS: [(&[&str], u8); 80] = [
     (&["solve_cli", "check", "a", "b", "--audit"], 2),
     (&["solve_cli", "simulate", "a", "--audit"], 2),
     (&["solve_cli", "simulate", "a", "--workers", "2"], 2),
+    (&["solve_cli", "solve", "a", "--megabytes", "0"], 2),
+    (&["solve_cli", "solve", "a", "--megabytes", "1000001"], 2),
+    (&["solve_cli", "solve", "a", "--megabytes", "+5"], 2),
+    (&["solve_cli", "solve", "a", "--megabytes", "5MB"], 2),
+    (&["solve_cli", "solve", "a", "--megabytes"], 2),
+    (&["solve_cli", "answer", "a", "--megabytes", "5"], 2),
+    (&["solve_cli", "simulate", "a", "--megabytes", "5"], 2),
     (&["solve_cli", "solve", "a", "--seconds", "0"], 2),
     (&["solve_cli", "solve", "a", "--seconds", "1000001"], 2),
     (&["solve_cli", "solve", "a", "--seconds", "1.5"], 2),
@@ -451,7 +481,7 @@ fn reported<R: Abort>(rt: &R, alloc: Global, words: &[&str]) -> String {
 
 /// Values that are refused, each with what is reported: the option and its range, and the usage of its own subcommand by the name that
 /// the program was called by.
-static VALUES: [(&[&str], &str); 11] = [
+static VALUES: [(&[&str], &str); 12] = [
     (
         &["solve_cli", "alone", "a", "--fuel", "x"],
         "error: --fuel takes 1 to 18446744073709551615\n\nUsage: solve_cli alone [OPTIONS] <file>\n",
@@ -475,6 +505,10 @@ static VALUES: [(&[&str], &str); 11] = [
     (
         &["/usr/bin/solve_cli", "solve", "a", "--workers", "9"],
         "error: --workers takes 1 to 8\n\nUsage: solve_cli solve [OPTIONS] <file>\n",
+    ),
+    (
+        &["solve_cli", "solve", "a", "--megabytes", "0"],
+        "error: --megabytes takes 1 to 1000000\n\nUsage: solve_cli solve [OPTIONS] <file>\n",
     ),
     (
         &["solve_cli", "solve", "a", "--turns", "10000001"],

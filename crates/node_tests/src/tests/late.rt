@@ -24,6 +24,7 @@ const PLAN: Plan = Plan {
     turns: 1_000_000,
     timing: SOON,
     entries: 1_000_000,
+    book_bytes: 1_000_000_000,
     restarts: 0,
     limit: None,
 };

@@ -37,6 +37,7 @@ const PLAN: Plan = Plan {
     turns: u64::MAX,
     timing: SOON,
     entries: 1_000_000,
+    book_bytes: 1_000_000_000,
     restarts: 0,
     limit: None,
 };

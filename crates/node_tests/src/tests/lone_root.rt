@@ -31,6 +31,7 @@ const PLAN: Plan = Plan {
     turns: 100,
     timing: SOON_SILENT,
     entries: 1_000,
+    book_bytes: 1_000_000_000,
     restarts: 0,
     limit: None,
 };

@@ -19,6 +19,7 @@ const ONE_NODE: Plan = Plan {
     turns: 1_000_000,
     timing: SOON,
     entries: 1_000_000,
+    book_bytes: 1_000_000_000,
     restarts: 0,
     limit: None,
 };

@@ -23,6 +23,7 @@ fn plan_of(number: u8) -> Plan
         turns: 1_000_000,
         timing: SOON,
         entries: 1_000_000,
+        book_bytes: 1_000_000_000,
         restarts: 0,
         limit: None,
     }

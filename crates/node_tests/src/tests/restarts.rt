@@ -35,6 +35,7 @@ const PLAN: Plan = Plan {
     turns: 20_000,
     timing: SOON,
     entries: 1_000_000,
+    book_bytes: 1_000_000_000,
     restarts: 0,
     limit: None,
 };

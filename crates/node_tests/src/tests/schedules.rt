@@ -281,6 +281,7 @@ fn rooms(rt: HostRuntime) -> Result<(), Fail> {
             turns: 1,
             timing: Timing::USUAL,
             entries: 1,
+            book_bytes: 1_000_000_000,
             restarts: 0,
             limit: None,
         };

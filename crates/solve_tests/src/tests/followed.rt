@@ -31,7 +31,7 @@ fn ended(cause: EndCause, is_manned: bool) -> SiteEnd {
 type Ended = (u8, EndCause, bool);
 
 /// Sites in the order in which they ended, and the line.
-static REASONS: [(&[Ended], &str); 10] = [
+static REASONS: [(&[Ended], &str); 11] = [
     (&[], "ended: nothing was published: try again, or answer\n"),
     (
         &[(0, EndCause::Over, true)],
@@ -40,6 +40,10 @@ static REASONS: [(&[Ended], &str); 10] = [
     (
         &[(1, EndCause::BookFull, true)],
         "ended: a book is full: try more --entries, or answer\n",
+    ),
+    (
+        &[(1, EndCause::BooksFull, true)],
+        "ended: the books are as large as they may be: try more --megabytes, or answer\n",
     ),
     (
         &[(2, EndCause::Faults, true)],

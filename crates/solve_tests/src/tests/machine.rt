@@ -171,6 +171,7 @@ fn request(audit: bool) -> Request<'static> {
     Request {
         settings: settings(1, 1_000_000, 0, audit),
         seconds: None,
+        megabytes: None,
         progress: false,
         unlimited: false,
         threads: None,
@@ -208,6 +209,7 @@ fn a_limit_is_counted_in_seconds(rt: HostRuntime) -> Result<(), Fail> {
     let request = Request {
         settings: settings(1, 1_000_000, 0, false),
         seconds: Some(1),
+        megabytes: None,
         progress: true,
         unlimited: false,
         threads: None,

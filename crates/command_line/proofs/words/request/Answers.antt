@@ -44,6 +44,7 @@ returns-clause-met c =
           audit_given = subst (λ (value : Option Text). IsFlag value s.audit) (first_value-rows f (codes "audit")) given.audit_given;
         };
         seconds_given = subst (λ (value : Option Text). SpellsIf value r.seconds) (first_value-rows f (codes "seconds")) asked.seconds_given;
+        megabytes_given = subst (λ (value : Option Text). SpellsIf value r.megabytes) (first_value-rows f (codes "megabytes")) asked.megabytes_given;
         progress_given = subst (λ (value : Option Text). IsFlag value r.progress) (first_value-rows f (codes "progress")) asked.progress_given;
         unlimited_given = subst (λ (value : Option Text). IsFlag value r.unlimited) (first_value-rows f (codes "unlimited")) asked.unlimited_given;
         threads_given = subst (λ (value : Option Text). SpellsIf value r.threads) (first_value-rows f (codes "threads")) asked.threads_given;

@@ -15,8 +15,8 @@ returns-clause-states g c =
       is = inr (subst K (sym key) (c.write_key.ensures c.if-not-write_key.false), subst S (ap (λ (v : Keeping). v.states) c.self.view_is) c.keep.ensures.kept);
     }
 
-pub returns-then-visits-lt-LEAST-clause-states : goal.returns-then-visits-lt-LEAST-clause-states
-returns-then-visits-lt-LEAST-clause-states g c = record { key = []; is = inl (search rules) }
+pub returns-then-visits-lt-LEAST_VISITS-clause-states : goal.returns-then-visits-lt-LEAST_VISITS-clause-states
+returns-then-visits-lt-LEAST_VISITS-clause-states g c = record { key = []; is = inl (search rules) }
 
 pub returns-then-not-write_key-clause-states : goal.returns-then-not-write_key-clause-states
 returns-then-not-write_key-clause-states g c = record { key = []; is = inl (search rules) }
