@@ -112,9 +112,9 @@ fn what_ended_a_learner_is_said(rt: HostRuntime) {
     let (alloc, most) = (rt.alloc(), Settings::new().memory);
     assert!(rt; learning_ends(alloc, NO_COVER, most, false).is_none());
     assert!(rt; learning_ends(alloc, LETTERS, most, false).is_none());
-    assert!(rt; learning_ends(alloc, NO_COVER, most, true) == Some(Unanswered::Time));
-    assert!(rt; learning_ends(alloc, NO_COVER, 0, false) == Some(Unanswered::Room));
-    assert!(rt; learning_ends(alloc, NO_COVER, 0, true) == Some(Unanswered::Time));
+    assert!(rt; learning_ends(alloc, LETTERS, most, true) == Some(Unanswered::Time));
+    assert!(rt; learning_ends(alloc, LETTERS, 0, false) == Some(Unanswered::Room));
+    assert!(rt; learning_ends(alloc, LETTERS, 0, true) == Some(Unanswered::Time));
 }
 
 #[test]

@@ -105,23 +105,34 @@ pub told_written : (may : Said → Type 0) (known old new : Option (List ℕ)) (
 told_written may None old new ignored r result is output = tt
 told_written may (Some text) old new ignored r result is output = rw is (told may text old new ignored r output)
 
+-- ---- what the result tells
+
+not_ok : {X E : Type 0} (r : Result X E) (x : X) (fault : E) → r ≡ Ok x → r ≡ Err fault → ⊥
+not_ok r x fault is e = absurd (cc)
+
+same_fault : {X : Type 0} (r : Result X EngineFault) (fault other : EngineFault) → r ≡ Err fault → r ≡ Err other → fault ≡ other
+same_fault r fault other is e = cc
+
+is_other : (r : Result EngineEnd Failure) (fault : EngineFault) (which : Unread) → r ≡ Err (failures.Other fault) → r ≡ Err (failures.Unread which) → ⊥
+is_other r fault which is e = absurd (cc)
+
 -- a fault of writing is one of the engine
 pub write_failed : (failed : Type 0) (ignored : ℕ) (r : Result Written EngineFault) (result : Result EngineEnd Failure) → result ≡ ended ignored r → (r ≡ Err faults.Write → failed) → plain result ≡ Err faults.Write → failed
-write_failed failed ignored (Ok written) result is h e = absurd (cc)
-write_failed failed ignored (Err fault) result is h e = h (cc)
+write_failed failed ignored (Ok written) result is h e = absurd (not_ok (plain result) _ faults.Write (ap (λ r. plain r) is) e)
+write_failed failed ignored (Err fault) result is h e = h (ap Err (same_fault (plain result) fault faults.Write (ap (λ r. plain r) is) e))
 
 -- no fault of writing is one of reading
 no_read : (failed : Type 0) (may : Said → Type 0) (old new : Option (List ℕ)) (fault : EngineFault) → IsStoppedOf may old new fault → fault ≡ faults.Read → failed
 no_read failed may old new fault output e = absurd (rw e at output)
 
 pub read_well : (failed : Type 0) (may : Said → Type 0) (old new : Option (List ℕ)) (ignored : ℕ) (r : Result Written EngineFault) (result : Result EngineEnd Failure) → result ≡ ended ignored r → IsOutputOf may old new (status_in r) → plain result ≡ Err faults.Read → failed
-read_well failed may old new ignored (Ok written) result is output e = absurd (cc)
-read_well failed may old new ignored (Err fault) result is output e = no_read failed may old new fault output (cc)
+read_well failed may old new ignored (Ok written) result is output e = absurd (not_ok (plain result) _ faults.Read (ap (λ r. plain r) is) e)
+read_well failed may old new ignored (Err fault) result is output e = no_read failed may old new fault output (same_fault (plain result) fault faults.Read (ap (λ r. plain r) is) e)
 
 -- nor says which input can't be read
 pub not_unread : (failed : Type 0) (which : Unread) (ignored : ℕ) (r : Result Written EngineFault) (result : Result EngineEnd Failure) → result ≡ ended ignored r → result ≡ Err (failures.Unread which) → failed
-not_unread failed which ignored (Ok written) result is e = absurd (cc)
-not_unread failed which ignored (Err fault) result is e = absurd (cc)
+not_unread failed which ignored (Ok written) result is e = absurd (not_ok result _ (failures.Unread which) is e)
+not_unread failed which ignored (Err fault) result is e = absurd (is_other result fault which is e)
 
 -- it says why there is no answer, if there is none
 why_of : (fuel : Option ℕ) (time : Option TimeLimit) (text : List ℕ) (problem : Problem) (ignored : ℕ) (r : Result Written EngineFault) → IsProblemOf text problem ignored → IfOk r (λ written. SaysWhy (IsUnanswered (IsLimited time) problem fuel) written.status written.why) → IfOk (ended ignored r) (SaysWhyOf fuel time text)
