@@ -296,6 +296,9 @@ def bad_input(folder: str) -> None:
     expect("a name that no item has", [run(mode, file("stray", stray)) for mode in ("answer", "alone", "solve", "simulate", "why", "learn")] == 6 * [unknown])
     expect("the same to check", run("check", file("stray", stray), file("nothing", b"none\n")) == unknown)
     expect("the same in standard input", run("alone", "-", stdin=stray) == unknown)
+    long = b"|" * 2_000_000 + b"\n" + stray
+    unknown = (b"", b"refused: UnknownItem line 4\nno item is named c\n", 3)
+    expect("the same behind two megabytes", [run("alone", file("long", long)), run("alone", "-", stdin=long)] == 2 * [unknown])
     expect("binary bytes", run("alone", file("binary", bytes(range(256)))) == (b"", b"refused: IllegalByte line 1\n", 3))
     expect("a pipe", run("alone", "/dev/stdin", stdin=b"a\na\n") == (b"cover 1\na\n", b"", 0))
     expect("fuel 6", run("alone", letters, "--fuel", "6") == (cover, b"", 0))

@@ -1,11 +1,12 @@
 //! `answer`: an answer to a file's problem, by whatever is first.
 
-ghost use Rattle.std.specs.Prelude.{◌≡◌, ◌≢◌, IfOk, IfSome, None};
+ghost use Rattle.std.specs.Prelude.{◌≡◌, ◌≢◌, IfErr, IfOk, IfSome, None};
 ghost use Rattle.std.specs.Io.KnownBytes.{IsAtEnd};
 ghost use Rattle.answer_engine.specs.Answers.{AnswerSays, IsWonOf};
 ghost use Rattle.dlx_reader.specs.Devices.{failed_once};
 ghost use Rattle.search_engines.specs.Engines.{IsEnded, refuses_none};
-ghost use Rattle.search_engines.specs.Output.{IsOutputOf};
+ghost use Rattle.search_engines.specs.Failures.{Tells, plain};
+ghost use Rattle.search_engines.specs.Output.{IsOutputOf, status_in};
 
 use crate::basis::{Basis, Won};
 use crate::lanes::{learner_lane, run_lane, search_lane};
@@ -15,8 +16,8 @@ use crate::telling::write_told;
 use cover_problem::Problem;
 use dlx_reader::{Sink, Source};
 use search_engines::{
-    EndWatch, EngineEnd, EngineFault, ProgressLog, ProgressWatch, TimeLimit, read_whole,
-    search_until,
+    EndWatch, EngineEnd, EngineFault, Failure, ProgressLog, ProgressWatch, TimeLimit, Written,
+    ended_with, read_whole, search_until,
 };
 use std::alloc::{AllocError, Global};
 use std::sync::Wait;
@@ -187,15 +188,15 @@ fn searched_alone(alloc: Global, problem: &Problem) -> Result<Won, AllocError>
     }
 }
 
-/// Looks for an answer, writes it, or that there is none in the time, and returns the status.
+/// Looks for an answer, writes it, or that there is none in the time, and returns how that ended.
 fn write_decided<V: EndWatch, W: Sink, R: Threads + Wait + Clock + Sync>(
     task: &Task<'_, R>,
     problem: &Problem,
     watch: &mut V,
     sink: &mut W,
-) -> Result<u8, EngineFault>
+) -> Result<Written, EngineFault>
     ensures output { IsOutputOf (AnswerSays task.now.reason task.now.time problem.now)
-        (W.contents sink.old) (W.contents sink.new) result }
+        (W.contents sink.old) (W.contents sink.new) (status_in result) }
     ensures failed { result ≡ Err EngineFault.Write → W.failed sink.new ≡ failed_once (W.failed sink.old) }
 {
     match decided(task, problem, watch) {
@@ -219,23 +220,21 @@ pub fn answer_engine<S: Source, W: Sink, E: Sink, R: Threads + Wait + Clock + Sy
     source: &mut S,
     sink: &mut W,
     log: ProgressLog<'_, E>,
-) -> Result<AnswerEnd, EngineFault>
+) -> Result<AnswerEnd, Failure>
     ensures ended { IfSome (S.remaining source.old) (λ text.
         IsEnded (AnswerSays task.now.reason task.now.time) refuses_none text
-        (W.contents sink.old) (W.contents sink.new) result) }
-    ensures read { result ≢ Err EngineFault.Read → result ≢ Err EngineFault.Memory →
+        (W.contents sink.old) (W.contents sink.new) (plain result)) }
+    ensures read { plain result ≢ Err EngineFault.Read → plain result ≢ Err EngineFault.Memory →
         IsAtEnd (S.remaining source.new) }
-    ensures read_fault { result ≡ Err EngineFault.Read → S.failed source.new ≡ failed_once (S.failed source.old) }
-    ensures write_fault { result ≡ Err EngineFault.Write → W.failed sink.new ≡ failed_once (W.failed sink.old) }
+    ensures read_fault { plain result ≡ Err EngineFault.Read → S.failed source.new ≡ failed_once (S.failed source.old) }
+    ensures write_fault { plain result ≡ Err EngineFault.Write → W.failed sink.new ≡ failed_once (W.failed sink.old) }
+    ensures told { IfSome (S.remaining source.old) (λ text. IfErr result (Tells text)) }
 {
     let read = read_whole(task.alloc, source)?;
     let made = ProgressWatch::new(task.rt, task.alloc, &read.problem, u64::MAX, log);
     let Ok(mut watch) = made else {
-        return Err(EngineFault::Memory);
+        return Err(Failure::Other(EngineFault::Memory));
     };
-    let status = write_decided(task, &read.problem, &mut watch, sink)?;
-    Ok(EngineEnd {
-        status,
-        ignored: read.ignored,
-    })
+    let written = write_decided(task, &read.problem, &mut watch, sink);
+    ended_with(written, read.ignored)
 }

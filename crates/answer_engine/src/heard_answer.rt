@@ -3,7 +3,7 @@
 ghost use Rattle.std.specs.Prelude.{◌≡◌, ◌≢◌, None, IfOk, IfSome};
 ghost use Rattle.answer_engine.specs.Answers.{AnswerSays, IsWonOf};
 ghost use Rattle.dlx_reader.specs.Devices.{failed_once};
-ghost use Rattle.search_engines.specs.Output.{IsOutputOf};
+ghost use Rattle.search_engines.specs.Output.{IsOutputOf, status_in};
 
 use crate::answer::{Found, Task, first_of, settled};
 use crate::basis::Won;
@@ -16,7 +16,7 @@ use cover_problem::Problem;
 use decider::Trace;
 use dlx_reader::Sink;
 use learner::LearnerWatch;
-use search_engines::{EndWatch, EngineFault, ProgressLog, ProgressWatch, ReasonListener};
+use search_engines::{EndWatch, EngineFault, ProgressLog, ProgressWatch, ReasonListener, Written};
 use std::alloc::AllocError;
 use std::sync::Wait;
 use std::thread::{Threads, join};
@@ -108,7 +108,7 @@ fn decided_aloud<
     settled(task, problem, watch, found)
 }
 
-/// Looks for an answer, writes it, or that there is none in the time, and returns the status.
+/// Looks for an answer, writes it, or that there is none in the time, and returns how that ended.
 fn write_decided_aloud<
     V: EndWatch,
     T: Trace + ReasonListener + Drop,
@@ -121,9 +121,9 @@ fn write_decided_aloud<
     watch: &mut V,
     listeners: &mut Listeners<T, L>,
     sink: &mut W,
-) -> Result<u8, EngineFault>
+) -> Result<Written, EngineFault>
     ensures output { IsOutputOf (AnswerSays task.now.reason task.now.time problem.now)
-        (W.contents sink.old) (W.contents sink.new) result }
+        (W.contents sink.old) (W.contents sink.new) (status_in result) }
     ensures failed { result ≡ Err EngineFault.Write → W.failed sink.new ≡ failed_once (W.failed sink.old) }
 {
     match decided_aloud(task, problem, watch, listeners) {
@@ -155,9 +155,9 @@ pub fn write_heard_answer<
     listeners: &mut Listeners<T, L>,
     sink: &mut W,
     log: ProgressLog<'a, E>,
-) -> Result<u8, EngineFault>
+) -> Result<Written, EngineFault>
     ensures output { IsOutputOf (AnswerSays task.now.reason task.now.time problem.now)
-        (W.contents sink.old) (W.contents sink.new) result }
+        (W.contents sink.old) (W.contents sink.new) (status_in result) }
     ensures failed { result ≡ Err EngineFault.Write → W.failed sink.new ≡ failed_once (W.failed sink.old) }
 {
     let made = ProgressWatch::new(task.rt, task.alloc, problem, u64::MAX, log);

@@ -3,12 +3,12 @@
 ghost use Rattle.std.specs.Prelude.{◌≡◌, option_map, true, IfSome};
 ghost use Rattle.answer_engine.specs.Answers.{IsWonOf, told_said, won_said};
 ghost use Rattle.dlx_reader.specs.Devices.{failed_once};
-ghost use Rattle.search_engines.specs.Output.{IsOutput};
+ghost use Rattle.search_engines.specs.Output.{IsOutput, status_in};
 
 use crate::basis::{Won, basis_lines};
 use cover_problem::Problem;
 use dlx_reader::Sink;
-use search_engines::{EngineFault, write_line, write_published};
+use search_engines::{EngineFault, Unanswered, Written, write_line, write_published};
 use std::alloc::Global;
 
 /// Writes an answer and behind it what it rests on, and returns the status.
@@ -53,22 +53,28 @@ fn write_won<W: Sink>(
     }
 }
 
-/// Writes an answer as `write_won` does, or that there is none, and returns the status.
+/// Writes an answer as `write_won` does, or that there is none since the time of all ways is over, and returns how that ended.
 pub(crate) fn write_told<W: Sink>(
     alloc: Global,
     problem: &Problem,
     won: Option<&Won>,
     is_asked: bool,
     sink: &mut W,
-) -> Result<u8, EngineFault>
+) -> Result<Written, EngineFault>
     requires won { IfSome won (λ won. IsWonOf problem.now won.now) }
     ensures output { IsOutput (told_said is_asked problem.now
         (option_map (λ won. won.now) won.entry)) (W.contents sink.old) (W.contents sink.new)
-        result }
+        (status_in result) }
     ensures failed { result ≡ Err EngineFault.Write → W.failed sink.new ≡ failed_once (W.failed sink.old) }
 {
     match won {
-        Some(won) => write_won(alloc, problem, won, is_asked, sink),
-        None => write_published(problem, None, sink),
+        Some(won) => Ok(Written {
+            status: write_won(alloc, problem, won, is_asked, sink)?,
+            why: None,
+        }),
+        None => Ok(Written {
+            status: write_published(problem, None, sink)?,
+            why: Some(Unanswered::TimeOfAllWays),
+        }),
     }
 }

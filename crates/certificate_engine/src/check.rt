@@ -1,24 +1,40 @@
 //! `check` of a certificate that a file's problem has no exact cover.
 
-ghost use Rattle.std.specs.Prelude.{◌≡◌, ◌≢◌, IfSome};
+ghost use Rattle.std.specs.Prelude.{◌≡◌, ◌≢◌, IfErr, IfSome};
 ghost use Rattle.std.specs.Io.KnownBytes.{IsAtEnd};
 ghost use Rattle.certificate_engine.specs.Certificate.{CertificateSays, checked_said};
 ghost use Rattle.dlx_reader.specs.Devices.{failed_once};
 ghost use Rattle.search_engines.specs.Engines.{IsEnded, refuses_none};
-ghost use Rattle.search_engines.specs.Output.{IsOutput, IsOutputOf};
+ghost use Rattle.search_engines.specs.Failures.{Tells, plain};
+ghost use Rattle.search_engines.specs.Output.{IsOutput, IsOutputOf, status_in};
 
 use crate::wording::wrong_line;
 use cover_certificates::{Checked, check_certificate};
 use cover_problem::Problem;
 use dlx_reader::{Sink, Source};
-use search_engines::{EngineEnd, EngineFault, problem_of, read_all, write_line};
+use search_engines::{
+    EngineEnd, EngineFault, Failure, Written, ended_with, read_whole, write_line,
+};
 use std::alloc::Global;
 
 /// How a test of a certificate ended: with status 0 for right, 1 for wrong.
 pub type CertificateEnd = EngineEnd;
 
-/// Writes what a test came to, and returns the status.
-fn write_checked<W: Sink>(alloc: Global, checked: Checked, sink: &mut W) -> Result<u8, EngineFault>
+/// Writes what a test came to, and returns how that ended.
+fn write_checked<W: Sink>(
+    alloc: Global,
+    checked: Checked,
+    sink: &mut W,
+) -> Result<Written, EngineFault>
+    ensures output { IsOutput (checked_said checked) (W.contents sink.old) (W.contents sink.new) (status_in result) }
+    ensures failed { result ≡ Err EngineFault.Write → W.failed sink.new ≡ failed_once (W.failed sink.old) }
+{
+    let status = write_result(alloc, checked, sink)?;
+    Ok(Written { status, why: None })
+}
+
+/// Writes it, and returns the status.
+fn write_result<W: Sink>(alloc: Global, checked: Checked, sink: &mut W) -> Result<u8, EngineFault>
     ensures output { IsOutput (checked_said checked) (W.contents sink.old) (W.contents sink.new) result }
     ensures failed { result ≡ Err EngineFault.Write → W.failed sink.new ≡ failed_once (W.failed sink.old) }
 {
@@ -31,15 +47,15 @@ fn write_checked<W: Sink>(alloc: Global, checked: Checked, sink: &mut W) -> Resu
     }
 }
 
-/// Tests a certificate, writes what that came to, and returns the status.
+/// Tests a certificate, writes what that came to, and returns how that ended: never without an answer.
 fn write_test<W: Sink>(
     alloc: Global,
     problem: &Problem,
     certificate: &[u8],
     sink: &mut W,
-) -> Result<u8, EngineFault>
+) -> Result<Written, EngineFault>
     ensures output { IsOutputOf (CertificateSays problem.now) (W.contents sink.old)
-        (W.contents sink.new) result }
+        (W.contents sink.new) (status_in result) }
     ensures failed { result ≡ Err EngineFault.Write → W.failed sink.new ≡ failed_once (W.failed sink.old) }
 {
     match check_certificate(alloc, problem, certificate) {
@@ -59,19 +75,16 @@ pub fn certificate_engine<R: Source, W: Sink>(
     file: &mut R,
     certificate: &[u8],
     sink: &mut W,
-) -> Result<CertificateEnd, EngineFault>
+) -> Result<CertificateEnd, Failure>
     ensures ended { IfSome (R.remaining file.old) (λ text.
-        IsEnded CertificateSays refuses_none text (W.contents sink.old) (W.contents sink.new) result) }
-    ensures read { result ≢ Err EngineFault.Read → result ≢ Err EngineFault.Memory →
+        IsEnded CertificateSays refuses_none text (W.contents sink.old) (W.contents sink.new) (plain result)) }
+    ensures read { plain result ≢ Err EngineFault.Read → plain result ≢ Err EngineFault.Memory →
         IsAtEnd (R.remaining file.new) }
-    ensures read_fault { result ≡ Err EngineFault.Read → R.failed file.new ≡ failed_once (R.failed file.old) }
-    ensures write_fault { result ≡ Err EngineFault.Write → W.failed sink.new ≡ failed_once (W.failed sink.old) }
+    ensures read_fault { plain result ≡ Err EngineFault.Read → R.failed file.new ≡ failed_once (R.failed file.old) }
+    ensures write_fault { plain result ≡ Err EngineFault.Write → W.failed sink.new ≡ failed_once (W.failed sink.old) }
+    ensures told { IfSome (R.remaining file.old) (λ text. IfErr result (Tells text)) }
 {
-    let text = read_all(alloc, file)?;
-    let read = problem_of(alloc, &text)?;
-    let status = write_test(alloc, &read.problem, certificate, sink)?;
-    Ok(EngineEnd {
-        status,
-        ignored: read.ignored,
-    })
+    let read = read_whole(alloc, file)?;
+    let written = write_test(alloc, &read.problem, certificate, sink);
+    ended_with(written, read.ignored)
 }

@@ -1,5 +1,5 @@
 -- How `solve` ends at a text, by what came of its parts.
-use Rattle.std.proofs.Common.{◌≡◌, ◌⊎◌, ℕ, Bool, true, false, List, Option, Result, Ok, Err, refl, inl, inr}
+use Rattle.std.proofs.Common.{◌≡◌, ◌⊎◌, ℕ, Bool, true, false, List, Option, None, Result, Ok, Err, refl, inl, inr}
 use Rattle.std.proofs.KnownBytes.{Keeps-refl}
 use Rattle.cover_problem.specs.Problem.{Problem}
 use Rattle.dlx_reader.specs.ProblemOf.{IsProblemOf}
@@ -49,7 +49,7 @@ module _ (may : Problem → Said → Type 0) (refuses : NetworkFault → Type 0)
     -- where all was written
     pub ends_said : (status told : ℕ) → IsSaidOf (may problem) old new status → told ≡ status → EndsAs may refuses source_failed sink_failed text old new told
     ends_said status told said is = inl (record {
-      end = Ok (record { status = status; ignored = ignored });
+      end = Ok (record { status = status; ignored = ignored; why = None });
       ended = record { problem = problem; read = read; says = said };
       device = tt;
       status_is = is;

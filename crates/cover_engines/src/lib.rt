@@ -15,15 +15,16 @@ mod solve;
 
 pub use audited::{AuditFinding, write_audited};
 pub use followed_run::FollowedRun;
-pub use machine::Machine;
+pub use machine::{Machine, names_of};
 pub use memory_share::{USUAL_BOOK_BYTES, book_bytes_of};
 pub use network::{Loopback, Network, NetworkFault};
 pub use quiet_run::QuietRun;
 pub use search_engines::{
-    AloneEnd, CheckEnd, EngineEnd, EngineFault, LineStyle, Progress, ProgressLog, Remembered,
-    SearchLimits, TimeLimit, TreeEstimate, Unanswered, alone_engine, alone_within, check_engine,
-    check_within, tell, tell_end, tell_end_of, tell_fault, tell_unanswered, tell_unopened,
+    AloneEnd, CheckEnd, EngineEnd, EngineFault, Failure, InputNames, LineStyle, Progress,
+    ProgressLog, SearchLimits, TimeLimit, TreeEstimate, Unread, Written, alone_engine,
+    alone_within, check_engine, check_within, ended_with, read_input, read_whole, tell, tell_end,
+    tell_end_of, tell_failure, tell_fault, tell_unanswered, tell_unopened,
 };
 pub use sockets::links;
 pub use solve::{SolveEnd, SolveTask, solve_engine, solve_problem};
-pub use world_engine::{SimulateEnd, simulate_engine};
+pub use world_engine::{SimulateEnd, simulate_engine, simulate_source};

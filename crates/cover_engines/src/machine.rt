@@ -12,9 +12,10 @@ use crate::network::{Network, NetworkFault};
 use crate::quiet_run::QuietRun;
 use crate::solve::{SolveTask, solve_problem};
 use dlx_reader::{Read, Sink, Source};
-use run_settings::Request;
+use run_settings::{Request, Settings};
 use search_engines::{
-    EngineFault, LineStyle, ProgressLog, read_whole, tell, tell_fault, tell_fault_of, tell_unbound,
+    EngineFault, InputNames, LineStyle, ProgressLog, read_whole, tell, tell_failure, tell_fault,
+    tell_unbound,
 };
 use std::alloc::Global;
 use std::sync::Wait;
@@ -62,7 +63,7 @@ impl<N: Network, R: Threads + Wait + Clock + Sync> Machine<'_, N, R> {
     {
         match read_whole(self.alloc, source) {
             Ok(read) => self.solve_read(request, &read, sink, errors),
-            Err(fault) => tell_fault_of(&fault, request.settings.file, errors),
+            Err(failure) => tell_failure(&failure, names_of(&request.settings), errors),
         }
     }
 
@@ -168,6 +169,14 @@ impl<N: Network, R: Threads + Wait + Clock + Sync> Machine<'_, N, R> {
             tell(*status, read.ignored, errors);
         }
         solved
+    }
+}
+
+/// The names of the files that a command reads.
+pub fn names_of<'a>(settings: &Settings<'a>) -> InputNames<'a> {
+    InputNames {
+        file: settings.file,
+        answer: settings.answer,
     }
 }
 

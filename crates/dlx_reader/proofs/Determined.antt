@@ -4,10 +4,12 @@ use Rattle.cover_problem.specs.Problem.{Problem}
 use Rattle.dlx_reader.specs.Content.{content_of}
 use Rattle.dlx_reader.specs.Faults.{first_fault}
 use Rattle.dlx_reader.specs.ProblemOf.{IsProblemOf, HasNoProblem}
-use Rattle.dlx_reader.specs.Reading.{Gives, Reading, reading_of, read_by}
+use Rattle.dlx_reader.specs.Reading.{GivesPlain, Reading, reading_of, read_by}
 use Rattle.dlx_reader.specs.declared.fault.ReadFault.{ReadFault}
 use Rattle.dlx_reader.specs.declared.fault.ReadFault.TheVariants.{Memory}
 use Rattle.dlx_reader.specs.declared.reading.Read.{Read}
+use Rattle.dlx_reader.specs.declared.text_fault.TextFault.{TextFault}
+use Rattle.dlx_reader.specs.Unknown.{plain}
 use Rattle.dlx_reader.proofs.FirstFaults.{text_fault}
 use Rattle.dlx_reader.proofs.Placed.{fault_of}
 use Rattle.dlx_reader.proofs.Relation.{problem_read, text_related}
@@ -40,16 +42,16 @@ some_problem text h =
 
 -- ---- what reading returns
 
-pub has_problem : (text : List ℕ) (result : Result Read ReadFault) → Gives (λ read. read_by read.problem read.ignored) result (reading_of (content_of text)) → IfOk result (λ read. IsProblemOf text read.problem read.ignored)
+pub has_problem : (text : List ℕ) (result : Result Read TextFault) → GivesPlain (λ read. read_by read.problem read.ignored) result (reading_of (content_of text)) → IfOk result (λ read. IsProblemOf text read.problem read.ignored)
 has_problem text (Ok read) h = text_related text read.problem read.ignored h
 has_problem text (Err e) h = tt
 
-pub has_first_fault : (text : List ℕ) (result : Result Read ReadFault) → Gives (λ read. read_by read.problem read.ignored) result (reading_of (content_of text)) → IfErr result (λ e. (e ≡ Memory → ⊥) → first_fault text ≡ Some e)
+pub has_first_fault : (text : List ℕ) (result : Result Read TextFault) → GivesPlain (λ read. read_by read.problem read.ignored) result (reading_of (content_of text)) → IfErr result (λ e. (plain e ≡ Memory → ⊥) → first_fault text ≡ Some (plain e))
 has_first_fault text (Ok read) h = tt
 has_first_fault text (Err e) h = λ other. sym (text_fault text) ∙ ap fault_of (h other)
 
-pub has_no_problem : (text : List ℕ) (result : Result Read ReadFault) → Gives (λ read. read_by read.problem read.ignored) result (reading_of (content_of text)) → IfErr result (λ e. (e ≡ Memory → ⊥) → HasNoProblem text)
+pub has_no_problem : (text : List ℕ) (result : Result Read TextFault) → GivesPlain (λ read. read_by read.problem read.ignored) result (reading_of (content_of text)) → IfErr result (λ e. (plain e ≡ Memory → ⊥) → HasNoProblem text)
 has_no_problem text (Ok read) h = tt
 has_no_problem text (Err e) h = λ other problem ignored is.
-    let both : Ok (read_by problem ignored) ≡ Err e = sym (text_whole text problem ignored is) ∙ h other in
+    let both : Ok (read_by problem ignored) ≡ Err (plain e) = sym (text_whole text problem ignored is) ∙ h other in
     absurd (cc)

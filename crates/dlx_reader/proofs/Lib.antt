@@ -29,6 +29,7 @@ pub mod Parts
 pub mod Placed
 pub mod Problems
 pub mod Relation
+pub mod Unknowns
 pub mod Whole
 pub mod WordTexts
 pub mod Written

@@ -12,6 +12,8 @@ use Rattle.dlx_reader.specs.Faults.{part_tests, item_tests}
 use Rattle.dlx_reader.specs.Occurrences.{has_colon, item_part, colour_part}
 use Rattle.dlx_reader.specs.declared.fault.ReadFault.{ReadFault}
 use Rattle.dlx_reader.specs.declared.fault.ReadFault.TheVariants as faults
+use Rattle.dlx_reader.specs.declared.text_fault.TextFault.{TextFault}
+use Rattle.dlx_reader.specs.Unknown.{plain}
 
 -- one step after another: the first fault ends them
 infixl 10 ◌>>=◌
@@ -23,6 +25,11 @@ abbrev pub ◌>>=◌ : {A B : Type 0} → Result A ReadFault → (A → Result B
 abbrev pub Gives : {X Y : Type 0} → (X → Y) → Result X ReadFault → Result Y ReadFault → Type 0
 Gives view (Ok x) read = read ≡ Ok (view x)
 Gives view (Err e) read = (e ≡ faults.Memory → ⊥) → read ≡ Err e
+
+-- the same where the fault comes with the name that no item has
+abbrev pub GivesPlain : {X Y : Type 0} → (X → Y) → Result X TextFault → Result Y ReadFault → Type 0
+GivesPlain view (Ok x) read = read ≡ Ok (view x)
+GivesPlain view (Err e) read = (plain e ≡ faults.Memory → ⊥) → read ≡ Err (plain e)
 
 -- a value where no test holds, else the fault of the first that does
 abbrev pub after : {A : Type 0} → List (Bool × ReadFault) → A → Result A ReadFault

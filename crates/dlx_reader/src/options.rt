@@ -1,11 +1,12 @@
 //! The options that are kept.
 
-ghost use Rattle.std.specs.Prelude.{◌≡◌, ◌<◌, ◌≤◌, ◌+◌, [], map, OnErr};
+ghost use Rattle.std.specs.Prelude.{◌≡◌, ◌<◌, ◌≤◌, ◌+◌, [], map, IfErr, OnErr};
 ghost use Rattle.cover_problem.specs.Numbers.{some_below};
 ghost use Rattle.dlx_reader.specs.Options.{AreItemsOf, KeptOptions as KeptOptionsValue};
 ghost use Rattle.dlx_reader.specs.Lines.{words_of};
 ghost use Rattle.dlx_reader.specs.Occurrences.{colour_part};
 ghost use Rattle.dlx_reader.specs.Reading.{Gives, colour_at, colours_from, keep_at, none_kept};
+ghost use Rattle.dlx_reader.specs.Unknown.{IsOther};
 
 use crate::fault::ReadFault;
 use crate::lines::Line;
@@ -30,7 +31,8 @@ fn number_colour<'a>(
     colour: &'a [u8],
     line: usize,
 ) -> Result<u16, ReadFault>
-    ensures { Gives (λ number. (names.new, number)) result (colour_at line names.old colour.now) }
+    ensures gives { Gives (λ number. (names.new, number)) result (colour_at line names.old colour.now) }
+    ensures other { IfErr result IsOther }
 {
     if colour.is_empty() {
         return Ok(0);
@@ -52,9 +54,10 @@ fn number_colours<'a>(
     names: &mut Names<'a>,
     line: Line<'a>,
 ) -> Result<Vec<u16>, ReadFault>
-    ensures { Gives (λ numbers. (names.new, numbers.items)) result
+    ensures gives { Gives (λ numbers. (names.new, numbers.items)) result
         (colours_from line.entry.number names.old []
         (map colour_part (words_of line.entry.text.now))) }
+    ensures other { IfErr result IsOther }
 {
     let mut numbers = Vec::new(alloc);
     let mut left = line.text;
@@ -83,9 +86,10 @@ fn colours_of<'a>(
     line: Line<'a>,
 ) -> Result<Vec<u16>, ReadFault>
     requires { AreItemsOf (words_of line.text.now) read.now }
-    ensures { Gives (λ numbers. (names.new, numbers.items)) result
+    ensures gives { Gives (λ numbers. (names.new, numbers.items)) result
         (colours_from line.entry.number names.old []
         (map colour_part (words_of line.entry.text.now))) }
+    ensures other { IfErr result IsOther }
 {
     if read.has_colours {
         return number_colours(alloc, names, line);
@@ -188,6 +192,7 @@ impl<'a> KeptOptions<'a> {
         ensures gives { Gives (λ _. self.new) result
             (keep_at line.entry.number primary self.old read.items.items
             (words_of line.entry.text.now)) }
+        ensures other { IfErr result IsOther }
         ensures most { self.new.ignored ≤ self.old.ignored + 1 }
         ensures options { OnErr result (self.new.options ≡ self.old.options) }
         ensures colours { OnErr result (self.new.colours ≡ self.old.colours) }

@@ -3,6 +3,7 @@
 ghost use Rattle.std.specs.Prelude.{◌≡◌, ◌≢◌, ◌<◌, ◌≤◌, ◌+◌, ◌^◌, [], ◌∷◌, length, true, false, is_some, Some, IfOk, IfErr, OnOk};
 ghost use Rattle.std.specs.List.{All, list_any, list_all};
 ghost use Rattle.cover_problem.specs.Numbers.{is_in};
+ghost use Rattle.cover_problem.specs.declared.limits.TheConstants.{MOST_BYTES};
 ghost use Rattle.dlx_reader.specs.Content.{is_content, is_word, content_from, content_of};
 ghost use Rattle.dlx_reader.specs.Faults.{first_fault, is_bad_colour, is_illegal, name_tests, part_tests};
 ghost use Rattle.dlx_reader.specs.Items.{name_part, primary_in};
@@ -11,13 +12,16 @@ ghost use Rattle.dlx_reader.specs.Left.{content_left, line_of};
 ghost use Rattle.dlx_reader.specs.Lines.{words_of};
 ghost use Rattle.dlx_reader.specs.Occurrences.{bytes_in, colour_part, has_colon, item_part};
 ghost use Rattle.dlx_reader.specs.ProblemOf.{HasNoProblem, IsProblemOf};
-ghost use Rattle.dlx_reader.specs.Reading.{Gives, after, item_at, items_from, none_kept, option_item_at, option_from, option_at, options_from, reading_of, read_by};
+ghost use Rattle.dlx_reader.specs.Reading.{Gives, GivesPlain, after, item_at, items_from, none_kept, option_item_at, option_from, option_at, options_from, reading_of, read_by};
+ghost use Rattle.dlx_reader.specs.Unknown.{IsFirstName, IsOther, NamesUnknown, plain, unknown_among, unknown_in, unknown_of};
 ghost use Rattle.dlx_reader.specs.declared.fault.ReadFault.TheVariants.{Memory};
 
 use crate::fault::ReadFault;
 use crate::lines::{Line, Lines};
 use crate::names::Names;
 use crate::options::{KeptOptions, KeptParts, LineItems};
+use crate::short_name::ShortName;
+use crate::text_fault::{TextFault, UnknownName};
 use crate::words::{begins_with_bar, split_colour, split_word};
 use cover_problem::{MOST_BYTES, MOST_ITEMS, Problem};
 use std::alloc::Global;
@@ -34,7 +38,8 @@ fn has_illegal(name: &[u8]) -> bool
 
 /// Tests the bytes of a name, and how many there are.
 fn test_name(name: &[u8], line: usize) -> Result<(), ReadFault>
-    ensures { Gives (λ _. name.now) result (after (name_tests line name.now) name.now) }
+    ensures gives { Gives (λ _. name.now) result (after (name_tests line name.now) name.now) }
+    ensures other { IfErr result IsOther }
 {
     if has_illegal(name) {
         return Err(ReadFault::IllegalByte(line));
@@ -67,6 +72,7 @@ fn read_item<'a>(
     requires { length names.old ≤ MOST_ITEMS }
     ensures gives { Gives (λ _. (names.new, divided.new)) result
         (item_at line names.old divided.old word.now) }
+    ensures other { IfErr result IsOther }
     ensures few { length names.new ≤ MOST_ITEMS }
 {
     let name = name_part(word);
@@ -92,9 +98,10 @@ fn read_item<'a>(
 
 /// Reads the words of the item line.
 #[tactic(auto, unfolding(crate::specs::Reading::items_from))]
-pub(crate) fn read_items<'a>(alloc: Global, line: Line<'a>) -> Result<Names<'a>, ReadFault>
-    ensures { Gives (λ names. names) result
+fn read_items<'a>(alloc: Global, line: Line<'a>) -> Result<Names<'a>, ReadFault>
+    ensures gives { Gives (λ names. names) result
         (items_from line.entry.number [] false (words_of line.entry.text.now)) }
+    ensures other { IfErr result IsOther }
 {
     let mut names = Names::new(alloc);
     let mut divided = false;
@@ -134,8 +141,10 @@ fn is_bad_colour(name: &[u8], colour: Option<&[u8]>) -> bool
 
 /// Tests the parts of an option's word: the name of the item, and that of the colour behind the colon, if there is one.
 fn test_parts(name: &[u8], colour: Option<&[u8]>, line: usize) -> Result<(), ReadFault>
-    ensures { Gives (λ _. name.now) result
+    ensures gives { Gives (λ _. name.now) result
         (after (part_tests line (is_some colour.entry) name.now (bytes_in colour.entry)) name.now) }
+    ensures other { IfErr result IsOther }
+    ensures short { OnOk result (length name.now ≤ MOST_BYTES) }
 {
     if has_illegal(name) || has_illegal(colour.unwrap_or(&[])) {
         return Err(ReadFault::IllegalByte(line));
@@ -155,6 +164,8 @@ fn read_parts(word: &[u8], line: usize) -> Result<(&[u8], bool), ReadFault>
     ensures name { Gives (λ parts. parts.0.now) result
         (after (part_tests line (has_colon word.now) (item_part word.now) (colour_part word.now))
         (item_part word.now)) }
+    ensures other { IfErr result IsOther }
+    ensures short { IfOk result (λ parts. length parts.0.now ≤ MOST_BYTES) }
     ensures colon { IfOk result (λ parts. parts.1 ≡ has_colon word.now) }
 {
     if has_illegal(word) {
@@ -177,7 +188,7 @@ fn is_among(items: &[u16], bound: usize, item: u16) -> bool
 }
 
 /// Reads a further word of an option, and answers whether it has a colour. All items of the option are below the bound.
-#[tactic(auto, unfolding(crate::specs::Reading::option_item_at))]
+#[tactic(auto, unfolding(crate::specs::Reading::option_item_at), using(crate::proofs::Unknowns::unknown_alone, crate::proofs::Unknowns::known_alone))]
 fn read_option_item(
     names: &Names,
     primary: usize,
@@ -185,24 +196,28 @@ fn read_option_item(
     bound: &mut usize,
     word: &[u8],
     line: usize,
-) -> Result<bool, ReadFault>
+) -> Result<bool, TextFault>
     requires below { All (λ i. i < bound.old) items.old.items }
     ensures below { OnOk result (All (λ i. i < bound.new) items.new.items) }
-    ensures gives { Gives (λ _. items.new.items) result
+    ensures gives { GivesPlain (λ _. items.new.items) result
         (option_item_at line names.now primary items.old.items word.now) }
+    ensures unknown { IfErr result (NamesUnknown
+        (IsFirstName (unknown_in names.now (word.now ∷ [])))) }
+    ensures known { OnOk result (unknown_in names.now (word.now ∷ []) ≡ []) }
     ensures colon { IfOk result (λ colon. colon ≡ has_colon word.now) }
     ensures one { OnOk result (length items.new.items ≡ length items.old.items + 1) }
 {
     let (name, has_colour) = read_parts(word, line)?;
     let next = items.last().map_or(0, |item| usize::from(*item) + 1);
     let Some(item) = names.item_named_near(next, name) else {
-        return Err(ReadFault::UnknownItem(line));
+        let name = ShortName::of(name);
+        return Err(TextFault::UnknownItem(UnknownName { line, name }));
     };
     if is_among(items, *bound, item) {
-        return Err(ReadFault::DuplicateInOption(line));
+        return Err(TextFault::Other(ReadFault::DuplicateInOption(line)));
     }
     if has_colour && usize::from(item) < primary {
-        return Err(ReadFault::ColourOnPrimary(line));
+        return Err(TextFault::Other(ReadFault::ColourOnPrimary(line)));
     }
     items.push(item)?;
     *bound = usize::from(item + 1).max(*bound);
@@ -210,15 +225,18 @@ fn read_option_item(
 }
 
 /// Reads the words of an option.
-#[tactic(auto, unfolding(crate::specs::Reading::option_from))]
+#[tactic(auto, unfolding(crate::specs::Reading::option_from), using(crate::proofs::Unknowns::fault_of_word, crate::proofs::Unknowns::known_word))]
 fn read_option(
     alloc: Global,
     names: &Names,
     primary: usize,
     line: Line,
-) -> Result<LineItems, ReadFault>
-    ensures gives { Gives (λ read. read.items.items) result
+) -> Result<LineItems, TextFault>
+    ensures gives { GivesPlain (λ read. read.items.items) result
         (option_from line.entry.number names.now primary [] (words_of line.entry.text.now)) }
+    ensures unknown { IfErr result (NamesUnknown
+        (IsFirstName (unknown_in names.now (words_of line.entry.text.now)))) }
+    ensures known { OnOk result (unknown_in names.now (words_of line.entry.text.now) ≡ []) }
     ensures of { IfOk result (λ read. AreItemsOf (words_of line.entry.text.now) read) }
 {
     let mut items = Vec::with_capacity(alloc, USUAL_ITEMS)?;
@@ -242,26 +260,32 @@ fn read_option_line<'a>(
     primary: usize,
     kept: &mut KeptOptions<'a>,
     line: Line<'a>,
-) -> Result<(), ReadFault>
+) -> Result<(), TextFault>
     requires ignored { kept.old.ignored < line.number }
-    ensures gives { Gives (λ _. kept.new) result
+    ensures gives { GivesPlain (λ _. kept.new) result
         (option_at names.now primary kept.old (line_of line.entry)) }
+    ensures unknown { IfErr result (NamesUnknown
+        (IsFirstName (unknown_in names.now (words_of line.entry.text.now)))) }
+    ensures known { OnOk result (unknown_in names.now (words_of line.entry.text.now) ≡ []) }
     ensures ignored { kept.new.ignored ≤ kept.old.ignored + 1 }
 {
     let read = read_option(alloc, names, primary, line)?;
-    kept.keep(alloc, primary, read, line)
+    kept.keep(alloc, primary, read, line)?;
+    Ok(())
 }
 
 /// Reads the lines of options: those that say something, of the lines that are left.
-#[tactic(auto, unfolding(crate::specs::Reading::options_from))]
+#[tactic(auto, unfolding(crate::specs::Reading::options_from), using(crate::proofs::Unknowns::fault_of_line, crate::proofs::Unknowns::known_line))]
 fn read_options<'a>(
     alloc: Global,
     names: &Names,
     primary: usize,
     mut lines: Lines<'a>,
-) -> Result<KeptOptions<'a>, ReadFault>
-    ensures { Gives (λ kept. kept) result
+) -> Result<KeptOptions<'a>, TextFault>
+    ensures gives { GivesPlain (λ kept. kept) result
         (options_from names.now primary none_kept (content_left lines.entry)) }
+    ensures unknown { IfErr result (NamesUnknown
+        (IsFirstName (unknown_among names.now (content_left lines.entry)))) }
 {
     let mut kept = KeptOptions::new(alloc);
     while let Some(line) = lines.take_content() {
@@ -281,12 +305,14 @@ pub struct Read {
 
 /// Reads the item line, and the lines that are left behind it.
 #[tactic(auto, unfolding(crate::specs::Reading::reading_of))]
-fn read_content(alloc: Global, items: Line, others: Lines) -> Result<Read, ReadFault>
+fn read_content(alloc: Global, items: Line, others: Lines) -> Result<Read, TextFault>
     requires content { is_content (words_of items.text.now) ≡ true }
     requires words { list_all is_word (words_of items.text.now) ≡ true }
     requires others { list_all (λ line. list_all is_word line.1) (content_left others) ≡ true }
-    ensures { Gives (λ read. read_by read.problem read.ignored) result
+    ensures gives { GivesPlain (λ read. read_by read.problem read.ignored) result
         (reading_of (line_of items.entry ∷ content_left others.entry)) }
+    ensures unknown { IfErr result (NamesUnknown
+        (IsFirstName (unknown_of (line_of items.entry ∷ content_left others.entry)))) }
 {
     let names = read_items(alloc, items)?;
     let primary = primary_in(items.text);
@@ -307,13 +333,15 @@ fn read_content(alloc: Global, items: Line, others: Lines) -> Result<Read, ReadF
 
 /// Reads the lines of a text.
 #[tactic(auto, unfolding(crate::specs::Reading::reading_of))]
-fn read_lines(alloc: Global, text: &[u8]) -> Result<Read, ReadFault>
-    ensures { Gives (λ read. read_by read.problem read.ignored) result
+fn read_lines(alloc: Global, text: &[u8]) -> Result<Read, TextFault>
+    ensures gives { GivesPlain (λ read. read_by read.problem read.ignored) result
         (reading_of (content_of text.now)) }
+    ensures unknown { IfErr result (NamesUnknown
+        (IsFirstName (unknown_of (content_of text.now)))) }
 {
     let mut lines = Lines::of(text);
     let Some(items) = lines.take_content() else {
-        return Err(ReadFault::NoItems);
+        return Err(TextFault::Other(ReadFault::NoItems));
     };
     read_content(alloc, items, lines)
 }
@@ -325,14 +353,26 @@ fn read_lines(alloc: Global, text: &[u8]) -> Result<Read, ReadFault>
 /// that begins with `|` are secondary. Each later line is an option, a list of different names of items; behind that of a
 /// secondary item a `:` and the name of a colour may stand. Options without a primary item are ignored, and counted.
 ///
-/// An error other than `Memory` is the first fault of the text in reading order, with its line counted from 1. Beside the text
-/// it takes memory of the order of the problem, whatever else the text has.
-pub fn read_problem(alloc: Global, text: &[u8]) -> Result<Read, ReadFault>
+/// An error other than out of memory is the first fault of the text in reading order, with its line counted from 1. One that no item
+/// has a name comes with the name: the first in the lines of options that no item has. Beside the text it takes memory of the order
+/// of the problem, whatever else the text has.
+pub fn read_text(alloc: Global, text: &[u8]) -> Result<Read, TextFault>
     ensures problem { IfOk result (λ read. IsProblemOf text.now read.problem read.ignored) }
 
     // A text that has a problem is refused only where memory runs out.
+    ensures refused { IfErr result (λ e. plain e ≢ Memory → HasNoProblem text.now) }
+    ensures fault { IfErr result (λ e. plain e ≢ Memory → first_fault text.now ≡ Some (plain e)) }
+    ensures unknown { IfErr result (NamesUnknown
+        (IsFirstName (unknown_of (content_of text.now)))) }
+{
+    read_lines(alloc, text)
+}
+
+/// Reads a problem as `read_text` does. The error doesn't have the name that no item has.
+pub fn read_problem(alloc: Global, text: &[u8]) -> Result<Read, ReadFault>
+    ensures problem { IfOk result (λ read. IsProblemOf text.now read.problem read.ignored) }
     ensures refused { IfErr result (λ e. e ≢ Memory → HasNoProblem text.now) }
     ensures fault { IfErr result (λ e. e ≢ Memory → first_fault text.now ≡ Some e) }
 {
-    read_lines(alloc, text)
+    Ok(read_text(alloc, text)?)
 }

@@ -1,6 +1,7 @@
 //! The engine that learns: it reads a problem, and writes any exact cover, or that there is none.
 #![tactic(auto)]
 
+mod heard_stop;
 mod learn;
 mod learn_progress;
 mod learn_watch;

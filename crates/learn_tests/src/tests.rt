@@ -7,7 +7,7 @@ mod memory;
 use dlx_reader::{CountedReader, CountedWriter};
 use learn_engine::{LearnProgress, learn_engine};
 use learner::{Figures, LearnerWatch, Settings};
-use search_engines::tell_end;
+use search_engines::{EngineEnd, EngineFault, Failure, Unanswered, tell_end};
 use std::alloc::Global;
 
 /// Seven items and six options, of which 3, 4 and 0 are the one exact cover.
@@ -31,6 +31,11 @@ impl RunOutput {
             && self.errors.as_slice() == errors.as_bytes()
             && self.status == status
     }
+}
+
+/// How an engine ended, without what a message names beside its fault.
+fn plain(ended: Result<EngineEnd, Failure>) -> Result<EngineEnd, EngineFault> {
+    Ok(ended?)
 }
 
 /// A watch that stops a learner at its first look, or at none.
@@ -59,7 +64,7 @@ fn learn(alloc: Global, text: &str, stops: bool) -> RunOutput {
         &mut sink,
         &mut Watch { stops },
     );
-    let status = tell_end(&ended, &mut CountedWriter::new(&mut errors));
+    let status = tell_end(&plain(ended), &mut CountedWriter::new(&mut errors));
     RunOutput {
         out,
         errors,
@@ -85,6 +90,31 @@ fn learn_writes_answers(rt: HostRuntime) {
         let written = learn(rt.alloc(), text, *stops);
         assert!(rt; written.is(out, errors, *status), "{text}");
     }
+}
+
+/// Why a learner with so much room for its clauses ends without an answer, if it does.
+fn learning_ends(alloc: Global, text: &str, memory: u64, stops: bool) -> Option<Unanswered> {
+    let mut out = Vec::new(alloc);
+    let mut source = CountedReader::new(text.as_bytes());
+    let mut sink = CountedWriter::new(&mut out);
+    let settings = Settings {
+        memory,
+        ..Settings::new()
+    };
+    let mut watch = Watch { stops };
+    learn_engine(alloc, settings, &mut source, &mut sink, &mut watch)
+        .ok()?
+        .why
+}
+
+#[test]
+fn what_ended_a_learner_is_said(rt: HostRuntime) {
+    let (alloc, most) = (rt.alloc(), Settings::new().memory);
+    assert!(rt; learning_ends(alloc, NO_COVER, most, false).is_none());
+    assert!(rt; learning_ends(alloc, LETTERS, most, false).is_none());
+    assert!(rt; learning_ends(alloc, LETTERS, most, true) == Some(Unanswered::Time));
+    assert!(rt; learning_ends(alloc, LETTERS, 0, false) == Some(Unanswered::Room));
+    assert!(rt; learning_ends(alloc, LETTERS, 0, true) == Some(Unanswered::Time));
 }
 
 #[test]

@@ -1,2 +1,4 @@
+pub mod Ended
+pub mod Given
 pub mod Listed
 pub mod Outcomes

@@ -1,5 +1,6 @@
 pub mod Alone
 pub mod Check
 pub mod Engines
+pub mod Failures
 pub mod Output
 pub mod Status

@@ -1,11 +1,12 @@
 -- What is written, and what a fault leaves of it.
-use Rattle.std.specs.Prelude.{◌≡◌, ℕ, List, Option, None, Some, Result, MatchResult, codes}
+use Rattle.std.specs.Prelude.{◌≡◌, ℕ, List, Option, None, Some, Result, Ok, Err, MatchResult, codes}
 use Rattle.std.specs.Io.KnownBytes.{Appends, Keeps}
 use Rattle.cover_problem.specs.Problem.{Problem}
 use Rattle.cover_problem.specs.declared.answer.Answer.{Answer}
 use Rattle.cover_problem.specs.declared.answer.Answer.TheVariants.{Cover, NoCover}
 use Rattle.dlx_reader.specs.Devices.{AppendsFront}
 use Rattle.dlx_reader.specs.Writing.{answer_text}
+use Rattle.search_engines.specs.declared.engine.Written.{Written}
 use Rattle.search_engines.specs.declared.fault.EngineFault.{EngineFault}
 use Rattle.search_engines.specs.declared.fault.EngineFault.TheVariants as faults
 
@@ -36,6 +37,11 @@ IsStopped what old new (faults.Answer fault) = ⊥
 -- all of it was written, or what a fault leaves of it
 abbrev pub IsOutput : Said → Option (List ℕ) → Option (List ℕ) → Result ℕ EngineFault → Type 0
 IsOutput what old new r = MatchResult r (IsSaid what old new) (IsStopped what old new)
+
+-- the status of what was written
+abbrev pub status_in : Result Written EngineFault → Result ℕ EngineFault
+status_in (Ok written) = Ok written.status
+status_in (Err fault) = Err fault
 
 -- ---- where one of several things may be said
 

@@ -5,13 +5,15 @@ ghost use Rattle.cover_problem.specs.Search.{first};
 ghost use Rattle.dlx_reader.specs.Devices.{failed_once};
 ghost use Rattle.dlx_reader.specs.Writing.{IsWritable};
 ghost use Rattle.search_engines.specs.Alone.{AloneSaysWithin, IsGiven, answer_by, outcome_said, whole_outcome};
-ghost use Rattle.search_engines.specs.Output.{IsOutput, IsOutputOf};
+ghost use Rattle.search_engines.specs.Output.{IsOutput, IsOutputOf, status_in};
 
 use crate::deciding::{RootWatch, ShortWatch, searched};
+use crate::engine::Written;
 use crate::fault::EngineFault;
-use crate::lines::{write_published, write_solution};
+use crate::lines::{write_given, write_solution};
 use crate::progress_watch::EndWatch;
 use crate::stopwatch::Stopwatch;
+use crate::unanswered::Unanswered;
 use brancher::{Tables, Watch};
 use cover_problem::{Answer, Problem};
 use cover_reasons::{Reason, find_reason_until, holds_of};
@@ -105,12 +107,13 @@ fn certified_first<V: Watch, T: Trace + ReasonListener, C: Clock>(
     }
 }
 
-/// Writes the first cover of a problem, or that there is none, or that there is no answer where the watch stopped the search, and returns the
-/// status. The listener hears of what shows that there is no cover, as by `certified_until`.
+/// Writes the first cover of a problem, or that there is none, or that there is no answer where the watch stopped the search since its time was
+/// over, and returns how that ended. The listener hears of what shows that there is no cover, as by `certified_until`.
 ///
 /// # Errors
 ///
 /// `Write` where the sink failed, after a beginning of the text, and `Memory`, before any of it.
+#[tactic(auto, using(crate::proofs::Given::certified_said, crate::proofs::Given::ordered))]
 pub fn write_certified_within<V: EndWatch, T: Trace + ReasonListener, W: Sink, C: Clock>(
     clock: &C,
     alloc: Global,
@@ -118,16 +121,17 @@ pub fn write_certified_within<V: EndWatch, T: Trace + ReasonListener, W: Sink, C
     watch: &mut V,
     listener: &mut T,
     sink: &mut W,
-) -> Result<u8, EngineFault>
+) -> Result<Written, EngineFault>
     ensures output { IsOutputOf (AloneSaysWithin None problem.now)
-        (W.contents sink.old) (W.contents sink.new) result }
+        (W.contents sink.old) (W.contents sink.new) (status_in result) }
     ensures failed { result ≡ Err EngineFault.Write → W.failed sink.new ≡ failed_once (W.failed sink.old) }
 {
     let Ok(answer) = certified_until(clock, alloc, problem, watch, listener) else {
         return Err(EngineFault::Memory);
     };
     watch.end();
-    write_published(problem, answer.as_ref(), sink)
+    let given = answer.ok_or(Unanswered::Time);
+    write_given(problem, &given, sink)
 }
 
 /// Does the same under a watch that stops nothing, so it writes the first cover, or that there is none.
@@ -135,6 +139,7 @@ pub fn write_certified_within<V: EndWatch, T: Trace + ReasonListener, W: Sink, C
 /// # Errors
 ///
 /// `Write` where the sink failed, after a beginning of the text, and `Memory`, before any of it.
+#[tactic(auto, using(crate::proofs::Given::first_said))]
 pub fn write_certified<V: EndWatch, T: Trace + ReasonListener, W: Sink, C: Clock>(
     clock: &C,
     alloc: Global,
@@ -142,15 +147,16 @@ pub fn write_certified<V: EndWatch, T: Trace + ReasonListener, W: Sink, C: Clock
     watch: &mut V,
     listener: &mut T,
     sink: &mut W,
-) -> Result<u8, EngineFault>
+) -> Result<Written, EngineFault>
     requires watch { V.may_stop ≡ false }
     ensures output { IsOutput (outcome_said problem.now (whole_outcome problem.now None))
-        (W.contents sink.old) (W.contents sink.new) result }
+        (W.contents sink.old) (W.contents sink.new) (status_in result) }
     ensures failed { result ≡ Err EngineFault.Write → W.failed sink.new ≡ failed_once (W.failed sink.old) }
 {
     let Ok(answer) = certified_first(clock, alloc, problem, watch, listener) else {
         return Err(EngineFault::Memory);
     };
     watch.end();
-    write_solution(problem, &answer, sink)
+    let status = write_solution(problem, &answer, sink)?;
+    Ok(Written { status, why: None })
 }

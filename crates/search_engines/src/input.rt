@@ -1,16 +1,18 @@
 //! Reading a source to its end, and the problem or the answer that its bytes spell.
 
-ghost use Rattle.std.specs.Prelude.{◌≡◌, ◌≢◌, ◌⊎◌, IfErr, IfOk, IfSome};
+ghost use Rattle.std.specs.Prelude.{◌≡◌, ◌≢◌, ◌⊎◌, IfErr, IfOk, IfSome, IsErrOf};
 ghost use Rattle.std.specs.Io.KnownBytes.{Consumes, IsAtEnd};
 ghost use Rattle.dlx_reader.specs.Answers.{IsAnswerOf};
 ghost use Rattle.dlx_reader.specs.Devices.{failed_once};
 ghost use Rattle.dlx_reader.specs.ProblemOf.{IsProblemOf};
 ghost use Rattle.search_engines.specs.Check.{IsListedAnswer, IsSourcesFault, IsTextsFault};
 ghost use Rattle.search_engines.specs.Engines.{IsReadFault, IsFileFault, IsAnswerFault, IsSourceFault};
+ghost use Rattle.search_engines.specs.Failures.{IsUnread, Tells, plain, plain_fault};
 
+use crate::failure::{Failure, Unread};
 use crate::fault::EngineFault;
 use cover_problem::{Answer, Problem};
-use dlx_reader::{AnswerFault, Read, ReadFault, Source, read_answer, read_problem};
+use dlx_reader::{AnswerFault, Read, ReadFault, Source, TextFault, read_answer, read_text};
 use std::alloc::Global;
 
 /// How many bytes one read asks for.
@@ -43,20 +45,41 @@ pub fn read_all<R: Source>(alloc: Global, source: &mut R) -> Result<Vec<u8>, Eng
     }
 }
 
+/// Does what `read_all` does, and says which input can't be read.
+pub fn read_input<R: Source>(
+    alloc: Global,
+    which: Unread,
+    source: &mut R,
+) -> Result<Vec<u8>, Failure>
+    ensures read { IfOk result (λ text.
+        Consumes (R.remaining source.old) (R.remaining source.new) text.items) }
+    ensures end { IfOk result (λ _. IsAtEnd (R.remaining source.new)) }
+    ensures failed { plain result ≡ Err EngineFault.Read → R.failed source.new ≡ failed_once (R.failed source.old) }
+    ensures fault { IfErr result (IsUnread which) }
+{
+    match read_all(alloc, source) {
+        Ok(text) => Ok(text),
+        Err(EngineFault::Read) => Err(Failure::Unread(which)),
+        Err(fault) => Err(Failure::Other(fault)),
+    }
+}
+
 /// Returns the problem of a text.
 ///
 /// # Errors
 ///
 /// `File` with the text's first fault, and `Memory`.
-pub fn problem_of(alloc: Global, text: &[u8]) -> Result<Read, EngineFault>
+fn problem_of(alloc: Global, text: &[u8]) -> Result<Read, Failure>
     ensures problem { IfOk result (λ read. IsProblemOf text.now read.problem read.ignored) }
-    ensures fault { IfErr result (IsFileFault text.now) }
+    ensures fault { IfErr result (λ failure. IsFileFault text.now (plain_fault failure)) }
+    ensures told { IfErr result (Tells text.now) }
 {
-    match read_problem(alloc, text) {
+    match read_text(alloc, text) {
         Ok(read) => Ok(read),
+        Err(TextFault::UnknownItem(unknown)) => Err(Failure::UnknownItem(unknown)),
         // (no fault of the file, so the run ends with another status than a refusal)
-        Err(ReadFault::Memory) => Err(EngineFault::Memory),
-        Err(fault) => Err(EngineFault::File(fault)),
+        Err(TextFault::Other(ReadFault::Memory)) => Err(Failure::Other(EngineFault::Memory)),
+        Err(TextFault::Other(fault)) => Err(Failure::Other(EngineFault::File(fault))),
     }
 }
 
@@ -66,17 +89,19 @@ pub fn problem_of(alloc: Global, text: &[u8]) -> Result<Read, EngineFault>
 /// # Errors
 ///
 /// `Read` if a read failed, `File` with the text's first fault, and `Memory`.
-pub fn read_whole<R: Source>(alloc: Global, source: &mut R) -> Result<Read, EngineFault>
+pub fn read_whole<R: Source>(alloc: Global, source: &mut R) -> Result<Read, Failure>
     ensures problem { IfOk result (λ read.
         IfSome (R.remaining source.old) (λ text. IsProblemOf text read.problem read.ignored)) }
-    ensures read { result ≢ Err EngineFault.Read → result ≢ Err EngineFault.Memory →
+    ensures read { plain result ≢ Err EngineFault.Read → plain result ≢ Err EngineFault.Memory →
         IsAtEnd (R.remaining source.new) }
-    ensures fault { IfErr result (λ fault.
-        IfSome (R.remaining source.old) (λ text. IsSourceFault text fault)) }
-    ensures failed { result ≡ Err EngineFault.Read → R.failed source.new ≡ failed_once (R.failed source.old) }
-    ensures unwritten { result ≢ Err EngineFault.Write }
+    ensures fault { IfErr result (λ failure.
+        IfSome (R.remaining source.old) (λ text. IsSourceFault text (plain_fault failure))) }
+    ensures told { IfErr result (λ failure.
+        IfSome (R.remaining source.old) (λ text. Tells text failure)) }
+    ensures failed { plain result ≡ Err EngineFault.Read → R.failed source.new ≡ failed_once (R.failed source.old) }
+    ensures unwritten { plain result ≢ Err EngineFault.Write }
 {
-    let text = read_all(alloc, source)?;
+    let text = read_input(alloc, Unread::File, source)?;
     problem_of(alloc, &text)
 }
 
@@ -111,11 +136,12 @@ pub struct Given {
 /// # Errors
 ///
 /// `File` with the first fault of the problem's text, else `Answer` with that of the answer's, and `Memory`.
-fn given_by(alloc: Global, file: &[u8], answer: &[u8]) -> Result<Given, EngineFault>
+fn given_by(alloc: Global, file: &[u8], answer: &[u8]) -> Result<Given, Failure>
     ensures problem { IfOk result (λ given. IsProblemOf file.now given.read.problem given.read.ignored) }
     ensures answer { IfOk result (λ given. IsAnswerOf answer.now given.read.problem given.answer) }
     ensures listed { IfOk result (λ given. IsListedAnswer given.read.problem given.answer) }
-    ensures fault { IfErr result (IsTextsFault file.now answer.now) }
+    ensures fault { IfErr result (λ failure. IsTextsFault file.now answer.now (plain_fault failure)) }
+    ensures told { IfErr result (Tells file.now) }
 {
     let read = problem_of(alloc, file)?;
     let answer = answer_of(alloc, answer, &read.problem)?;
@@ -132,24 +158,29 @@ pub fn read_given<R: Source, S: Source>(
     alloc: Global,
     file: &mut R,
     answer: &mut S,
-) -> Result<Given, EngineFault>
+) -> Result<Given, Failure>
     ensures problem { IfOk result (λ given. IfSome (R.remaining file.old)
         (λ text. IsProblemOf text given.read.problem given.read.ignored)) }
     ensures answer { IfOk result (λ given. IfSome (S.remaining answer.old)
         (λ text. IsAnswerOf text given.read.problem given.answer)) }
     ensures listed { IfOk result (λ given. IsListedAnswer given.read.problem given.answer) }
-    ensures fault { IfErr result (λ fault. IfSome (R.remaining file.old) (λ text.
-        IfSome (S.remaining answer.old) (λ given. IsSourcesFault text given fault))) }
-    ensures file_read { result ≢ Err EngineFault.Read → result ≢ Err EngineFault.Memory →
+    ensures fault { IfErr result (λ failure. IfSome (R.remaining file.old) (λ text.
+        IfSome (S.remaining answer.old) (λ given. IsSourcesFault text given (plain_fault failure)))) }
+    ensures told { IfErr result (λ failure. IfSome (R.remaining file.old) (λ text. Tells text failure)) }
+    ensures file_read { plain result ≢ Err EngineFault.Read → plain result ≢ Err EngineFault.Memory →
         IsAtEnd (R.remaining file.new) }
-    ensures answer_read { result ≢ Err EngineFault.Read → result ≢ Err EngineFault.Memory →
+    ensures answer_read { plain result ≢ Err EngineFault.Read → plain result ≢ Err EngineFault.Memory →
         IsAtEnd (S.remaining answer.new) }
-    ensures read_fault { result ≡ Err EngineFault.Read →
+    ensures read_fault { plain result ≡ Err EngineFault.Read →
         (R.failed file.new ≡ failed_once (R.failed file.old)) ⊎ (S.failed answer.new ≡ failed_once (S.failed answer.old)) }
-    ensures unwritten { result ≢ Err EngineFault.Write }
+    ensures unread_file { IsErrOf result (Failure.Unread Unread.File) →
+        R.failed file.new ≡ failed_once (R.failed file.old) }
+    ensures unread_answer { IsErrOf result (Failure.Unread Unread.Answer) →
+        S.failed answer.new ≡ failed_once (S.failed answer.old) }
+    ensures unwritten { plain result ≢ Err EngineFault.Write }
 {
-    let file = read_all(alloc, file)?;
+    let file = read_input(alloc, Unread::File, file)?;
     // (before the first text is tested: a refusal then says that both could be read)
-    let answer = read_all(alloc, answer)?;
+    let answer = read_input(alloc, Unread::Answer, answer)?;
     given_by(alloc, &file, &answer)
 }

@@ -9,6 +9,7 @@ mod certifying;
 mod check;
 mod deciding;
 mod engine;
+mod failure;
 mod fault;
 mod forecast;
 mod input;
@@ -18,7 +19,6 @@ mod looking;
 mod progress;
 mod progress_log;
 mod progress_watch;
-mod remembered;
 mod search_limits;
 mod stopwatch;
 mod telling;
@@ -34,20 +34,20 @@ pub use certifying::{
 };
 pub use check::{CheckEnd, check_engine, check_within};
 pub use deciding::{answer_until, is_excluded, search_until};
-pub use engine::EngineEnd;
+pub use engine::{EngineEnd, Written, ended_with};
+pub use failure::{Failure, Unread};
 pub use fault::EngineFault;
 pub use forecast::Forecast;
-pub use input::{problem_of, read_all, read_whole};
+pub use input::{read_all, read_input, read_whole};
 pub use line_timer::LineTimer;
-pub use lines::{write_line, write_published};
+pub use lines::{write_given, write_line, write_published};
 pub use progress::Progress;
 pub use progress_log::{LineStyle, ProgressLog};
 pub use progress_watch::{EndWatch, ProgressWatch};
-pub use remembered::Remembered;
 pub use search_limits::{SearchLimits, TimeLimit};
 pub use stopwatch::Stopwatch;
 pub use telling::{
-    tell, tell_end, tell_end_of, tell_fault, tell_fault_of, tell_unbound, tell_unopened,
+    InputNames, tell, tell_end, tell_end_of, tell_failure, tell_fault, tell_unbound, tell_unopened,
 };
 pub use timed_watch::TimedWatch;
 pub use tree_estimate::TreeEstimate;

@@ -3,12 +3,14 @@
 //! A fault of that sink is passed over throughout: there is nowhere left to report it, and the status still says how the run ended.
 
 ghost use Rattle.std.specs.Prelude.{◌≡◌};
+ghost use Rattle.search_engines.specs.Failures.{plain, plain_fault};
 ghost use Rattle.search_engines.specs.Status.{end_status, fault_status};
 
 use crate::engine::EngineEnd;
+use crate::failure::{Failure, Unread};
 use crate::fault::EngineFault;
-use dlx_reader::{AnswerFault, ReadFault, Sink};
-use std::io::ErrorKind;
+use dlx_reader::{AnswerFault, ReadFault, Sink, UnknownName};
+use std::io::{self, ErrorKind};
 
 /// Reports how many options were ignored, if any, and returns the exit status. A fault of the sink is passed over.
 pub fn tell<E: Sink>(status: u8, ignored: usize, sink: &mut E) -> u8
@@ -82,23 +84,57 @@ pub fn tell_end<E: Sink>(ended: &Result<EngineEnd, EngineFault>, sink: &mut E) -
     }
 }
 
-/// Does what `tell_fault` does, and names the file if a read failed.
-pub fn tell_fault_of<E: Sink>(fault: &EngineFault, name: &str, sink: &mut E) -> u8
-    ensures { result ≡ fault_status fault.now }
+/// The names of the files that an engine reads.
+#[derive(Clone, Copy, Debug, PartialEq, Eq)]
+pub struct InputNames<'a> {
+    /// The problem file's.
+    pub file: &'a str,
+    /// The answer file's, if it reads one.
+    pub answer: Option<&'a str>,
+}
+
+/// Reports that the problem file is refused since no item has a name, and the name, and returns the exit status, which is 3.
+fn tell_unknown<E: Sink>(unknown: &UnknownName, sink: &mut E) -> u8
+    ensures { result ≡ 3 }
 {
-    match fault {
-        EngineFault::Read => tell_unread(name, "a read failed", sink),
-        other => tell_fault(other, sink),
+    tell_refusal("refused", ("UnknownItem", Some(unknown.line)), sink);
+    let _ = write_unknown(unknown.name.as_slice(), sink);
+    3
+}
+
+/// Writes that no item has this name, with the bytes that it has in the file.
+fn write_unknown<E: Sink>(name: &[u8], sink: &mut E) -> io::Result<()> {
+    sink.write_all(b"no item is named ")?;
+    sink.write_all(name)?;
+    sink.write_all(b"\n")
+}
+
+/// Does what `tell_fault` does, and names the file if a read failed, and the name that no item has.
+pub fn tell_failure<E: Sink>(failure: &Failure, names: InputNames<'_>, sink: &mut E) -> u8
+    ensures { result ≡ fault_status (plain_fault failure.now) }
+{
+    match failure {
+        Failure::Unread(Unread::File) => tell_unread(names.file, "a read failed", sink),
+        Failure::Unread(Unread::Answer) => {
+            let name = names.answer.unwrap_or(names.file);
+            tell_unread(name, "a read failed", sink)
+        }
+        Failure::UnknownItem(unknown) => tell_unknown(unknown, sink),
+        Failure::Other(fault) => tell_fault(fault, sink),
     }
 }
 
-/// Does what `tell_end` does, and names the file if a read failed.
-pub fn tell_end_of<E: Sink>(ended: &Result<EngineEnd, EngineFault>, name: &str, sink: &mut E) -> u8
-    ensures { result ≡ end_status ended.now }
+/// Does what `tell_end` does, and names the file if a read failed, and the name that no item has.
+pub fn tell_end_of<E: Sink>(
+    ended: &Result<EngineEnd, Failure>,
+    names: InputNames<'_>,
+    sink: &mut E,
+) -> u8
+    ensures { result ≡ end_status (plain ended.now) }
 {
     match ended {
         Ok(end) => tell(end.status, end.ignored, sink),
-        Err(fault) => tell_fault_of(fault, name, sink),
+        Err(failure) => tell_failure(failure, names, sink),
     }
 }
 

@@ -1,7 +1,10 @@
 //! Why a command has no answer.
 
+ghost use Rattle.std.specs.Prelude.{◌≡◌};
+ghost use Rattle.search_engines.specs.Alone.{why_spent};
+
 use crate::engine::EngineEnd;
-use crate::fault::EngineFault;
+use crate::failure::Failure;
 use dlx_reader::Sink;
 use std::fmt::{self, Display, Formatter, Write};
 
@@ -24,7 +27,9 @@ pub enum Unanswered {
 
 impl Unanswered {
     /// Returns why a search with so much fuel has no answer, if its time didn't stop it.
-    pub fn by_fuel(fuel: u64) -> Unanswered {
+    pub fn by_fuel(fuel: u64) -> Unanswered
+        ensures { result ≡ why_spent fuel }
+    {
         if fuel == u64::MAX {
             Unanswered::GreatestFuel
         } else {
@@ -48,14 +53,10 @@ impl Display for Unanswered {
     }
 }
 
-/// Writes why an engine has no answer, if it ended with status 4. A fault of the sink is passed over.
-pub fn tell_unanswered<E: Sink>(
-    ended: &Result<EngineEnd, EngineFault>,
-    why: Unanswered,
-    sink: &mut E,
-) {
+/// Writes why an engine has no answer, if it says so. A fault of the sink is passed over.
+pub fn tell_unanswered<E: Sink>(ended: &Result<EngineEnd, Failure>, sink: &mut E) {
     if let Ok(end) = ended
-        && end.status == 4
+        && let Some(why) = end.why
     {
         let _ = writeln!(sink, "ended: {why}");
     }

@@ -4,11 +4,10 @@ ghost use Rattle.std.specs.Prelude.{◌≡◌, false};
 
 use crate::certificate_place::CertificatePlace;
 use crate::certified_answer::certify_answer;
-use crate::{learner_settings, limits_of, line_style, open, unanswered, why_unlearned};
+use crate::{Input, learner_settings, line_style, output, tell_ended};
 use certificate_writer::{CaseWriter, CertificateFate, CertifyingWatch, ClauseWriter};
 use cover_engines::{
-    EngineEnd, EngineFault, ProgressLog, SearchLimits, Unanswered, tell_end_of, tell_unanswered,
-    tell_unopened,
+    EngineFault, ProgressLog, SearchLimits, Written, ended_with, names_of, read_whole, tell_failure,
 };
 use cover_problem::Problem;
 use dlx_reader::{CountedWriter, Read, Sink};
@@ -16,19 +15,73 @@ use learn_engine::{LearnWatch, learn_problem};
 use reason_engine::why_problem;
 use run_settings::{Mode, Request};
 use search_engines::{
-    EndWatch, ProgressWatch, TimedWatch, read_whole, tell_fault_of, write_certified,
-    write_certified_within,
+    EndWatch, ProgressWatch, TimedWatch, write_certified, write_certified_within,
 };
 use std::fs::File;
 use std::sync::Wait;
 use std::thread::Threads;
 use std::time::Clock;
 
+/// What finds the answer of a run that writes a certificate.
+#[derive(Clone, Copy)]
+enum Finder {
+    /// A search and a learner, whichever is first: `answer`.
+    First,
+    /// One alone.
+    Single(Single),
+}
+
+/// What finds an answer alone, and writes down how.
+#[derive(Clone, Copy)]
+enum Single {
+    /// The search of `alone`.
+    Search,
+    /// The search for a reason of `why`.
+    Reason,
+    /// The learner of `learn`.
+    Learner,
+}
+
+impl Finder {
+    /// Returns what finds the answer of a command, if the command line has a certificate for it.
+    fn of(mode: Mode) -> Option<Finder> {
+        match mode {
+            Mode::Answer => Some(Finder::First),
+            Mode::Alone => Some(Finder::Single(Single::Search)),
+            Mode::Why => Some(Finder::Single(Single::Reason)),
+            Mode::Learn => Some(Finder::Single(Single::Learner)),
+            Mode::Check | Mode::Simulate | Mode::Solve => None,
+        }
+    }
+}
+
+/// What is asked for where a certificate is.
+#[derive(Clone, Copy)]
+pub(crate) struct Asked<'a, 'b> {
+    pub(crate) request: &'a Request<'b>,
+    pub(crate) limits: &'a SearchLimits,
+    /// The file that is to get it.
+    pub(crate) name: &'b str,
+    finder: Finder,
+}
+
+impl<'a, 'b> Asked<'a, 'b> {
+    /// Returns what a request asks for, if it asks for a certificate.
+    pub(crate) fn of(request: &'a Request<'b>, limits: &'a SearchLimits) -> Option<Asked<'a, 'b>> {
+        Some(Asked {
+            request,
+            limits,
+            name: request.certificate?,
+            finder: Finder::of(request.settings.mode)?,
+        })
+    }
+}
+
 /// How a run ended that wrote a certificate beside its answer.
 #[derive(Drop)]
 struct CertifiedEnd {
-    /// The status of the answer.
-    status: Result<u8, EngineFault>,
+    /// The status of the answer, and why there is none.
+    written: Result<Written, EngineFault>,
     /// Whether all of the certificate was written.
     is_whole: bool,
     /// Whether it shows anything.
@@ -39,84 +92,50 @@ impl CertifiedEnd {
     /// Returns the end of a run that was out of memory before it began.
     fn out_of_memory() -> CertifiedEnd {
         CertifiedEnd {
-            status: Err(EngineFault::Memory),
+            written: Err(EngineFault::Memory),
             is_whole: false,
             is_begun: false,
         }
     }
 }
 
-/// What is asked for, of which problem, and which file is to get a certificate.
-#[derive(Clone, Copy)]
-pub(crate) struct Asked<'a, 'b> {
-    pub(crate) request: &'a Request<'b>,
-    pub(crate) limits: &'a SearchLimits,
-    pub(crate) read: &'a Read,
-    pub(crate) name: &'a str,
-}
-
-/// Runs `answer`, `alone`, `why` or `learn` on a file, writes a certificate where there is no cover, and returns the exit status.
-pub(crate) fn run_certified<R: Threads + Wait + Clock + Sync>(
-    rt: &HostRuntime,
-    threads: &R,
-    request: &Request<'_>,
-    name: &str,
-) -> u8 {
-    let mut errors = CountedWriter::new(rt.stderr());
-    // (the time counts from here, so opening and reading the file is part of it)
-    let limits = limits_of(rt, request);
-    let mut source = match open(rt, request.settings.file) {
-        Ok(source) => source,
-        Err(error) => return tell_unopened(request.settings.file, error.kind(), &mut errors),
-    };
-    match read_whole(rt.alloc(), &mut source) {
-        Ok(read) => {
-            let asked = Asked {
-                request,
-                limits: &limits,
-                read: &read,
-                name,
-            };
-            run_asked(rt, threads, &asked, &mut errors)
-        }
-        Err(fault) => {
-            let status = tell_fault_of(&fault, request.settings.file, &mut errors);
-            source.tell_unknown(status, &mut errors);
-            status
-        }
-    }
-}
-
-/// Does that of a problem that was read.
-fn run_asked<E: Sink, R: Threads + Wait + Clock + Sync>(
+/// Finds an answer to the problem in a source, writes a certificate where there is no cover, and returns the exit status.
+pub(crate) fn run_certified<E: Sink, R: Threads + Wait + Clock + Sync>(
     rt: &HostRuntime,
     threads: &R,
     asked: &Asked<'_, '_>,
+    source: &mut Input,
     errors: &mut E,
 ) -> u8 {
-    match asked.request.settings.mode {
-        Mode::Answer => certify_answer(rt, threads, asked, errors),
-        Mode::Alone | Mode::Check | Mode::Why | Mode::Learn | Mode::Simulate | Mode::Solve => {
-            certify(rt, asked, errors)
-        }
+    match read_whole(rt.alloc(), source) {
+        Ok(read) => match asked.finder {
+            Finder::First => certify_answer(rt, threads, asked, &read, errors),
+            Finder::Single(single) => certify(rt, asked, single, &read, errors),
+        },
+        Err(failure) => tell_failure(&failure, names_of(&asked.request.settings), errors),
     }
 }
 
 /// Writes the answer to a problem and a certificate, and returns the exit status. Only a certificate that is right stays.
-fn certify<E: Sink>(rt: &HostRuntime, asked: &Asked<'_, '_>, errors: &mut E) -> u8 {
-    let (request, limits) = (asked.request, asked.limits);
-    let made = CertificatePlace::create(rt, request.settings.file, asked.name);
+fn certify<E: Sink>(
+    rt: &HostRuntime,
+    asked: &Asked<'_, '_>,
+    single: Single,
+    read: &Read,
+    errors: &mut E,
+) -> u8 {
+    let made = CertificatePlace::create(rt, asked.request.settings.file, asked.name);
     let (place, lines) = match made {
         Ok(made) => made,
         Err(fate) => return fate.tell(asked.name, 3, errors),
     };
-    let problem = &asked.read.problem;
+    let problem = &read.problem;
     let CertifiedEnd {
-        status,
+        written,
         is_whole,
         is_begun,
-    } = run_into(rt, request, limits, problem, lines, errors);
-    let status = tell_status(rt, asked, status, errors);
+    } = run_into(rt, asked, single, problem, lines, errors);
+    let status = tell_written(asked, read, written, errors);
     let fate = if status == 1 && !is_begun {
         CertificateFate::Unsayable
     } else {
@@ -140,66 +159,37 @@ pub(crate) fn fate_of(
     }
 }
 
-/// Writes how a run ended, and why it has no answer, if it has none, and returns the exit status.
-pub(crate) fn tell_status<E: Sink>(
-    rt: &HostRuntime,
+/// Reports how a run ended that wrote this of a problem that was read, and returns the exit status.
+pub(crate) fn tell_written<E: Sink>(
     asked: &Asked<'_, '_>,
-    status: Result<u8, EngineFault>,
+    read: &Read,
+    written: Result<Written, EngineFault>,
     errors: &mut E,
 ) -> u8 {
-    let ended = match status {
-        Ok(status) => Ok(EngineEnd {
-            status,
-            ignored: asked.read.ignored,
-        }),
-        Err(fault) => Err(fault),
-    };
-    let request = asked.request;
-    let status = tell_end_of(&ended, request.settings.file, errors);
-    tell_why(rt, asked, &ended, errors);
-    status
-}
-
-/// Writes why there is no answer, if there is none. `why` has no limit that could be met.
-fn tell_why<E: Sink>(
-    rt: &HostRuntime,
-    asked: &Asked<'_, '_>,
-    ended: &Result<EngineEnd, EngineFault>,
-    errors: &mut E,
-) {
-    let limits = asked.limits;
-    match asked.request.settings.mode {
-        Mode::Answer => tell_unanswered(ended, Unanswered::TimeOfAllWays, errors),
-        Mode::Learn => tell_unanswered(ended, why_unlearned(rt, limits), errors),
-        Mode::Alone => tell_unanswered(ended, unanswered(rt, asked.request, limits), errors),
-        Mode::Check | Mode::Why | Mode::Simulate | Mode::Solve => {}
-    }
+    let ended = ended_with(written, read.ignored);
+    tell_ended(&ended, &asked.request.settings, errors)
 }
 
 /// Runs what is asked for on a problem, and writes the answer, and to the file a certificate.
 fn run_into<E: Sink>(
     rt: &HostRuntime,
-    request: &Request<'_>,
-    limits: &SearchLimits,
+    asked: &Asked<'_, '_>,
+    single: Single,
     problem: &Problem,
     file: File,
     errors: &mut E,
 ) -> CertifiedEnd {
-    match request.settings.mode {
-        Mode::Why => reason_into(rt, problem, file),
-        Mode::Alone => search_into(rt, request, limits, problem, file, errors),
-        // (no other mode has a certificate to write, and what learns answers any problem)
-        Mode::Learn | Mode::Answer | Mode::Check | Mode::Simulate | Mode::Solve => learn_into(
-            rt, request, limits, problem, file, errors,
-        ),
+    match single {
+        Single::Search => search_into(rt, asked, problem, file, errors),
+        Single::Reason => reason_into(rt, problem, file),
+        Single::Learner => learn_into(rt, asked, problem, file, errors),
     }
 }
 
 /// Searches a problem, and writes the answer, and to the file a certificate.
 fn search_into<'a, E: Sink>(
     rt: &'a HostRuntime,
-    request: &Request<'_>,
-    limits: &SearchLimits,
+    asked: &Asked<'_, '_>,
     problem: &'a Problem,
     file: File,
     errors: &'a mut E,
@@ -208,31 +198,31 @@ fn search_into<'a, E: Sink>(
     let Ok(mut writer) = CaseWriter::new(alloc, problem, CountedWriter::new(file)) else {
         return CertifiedEnd::out_of_memory();
     };
-    let log = ProgressLog::new(errors, line_style(rt, request.progress));
+    let log = ProgressLog::new(errors, line_style(rt, asked.request.progress));
     let Ok(mut watch) = ProgressWatch::new(rt, alloc, problem, u64::MAX, log) else {
         return CertifiedEnd::out_of_memory();
     };
-    let status = write_searched(rt, limits, problem, &mut watch, &mut writer);
+    let written = write_searched(rt, asked.limits, problem, &mut watch, &mut writer);
     CertifiedEnd {
-        status,
+        written,
         is_whole: writer.end(),
         is_begun: writer.is_begun(),
     }
 }
 
-/// Searches a problem under a watch until the time is over, if it is limited, writes the answer, and returns the status. The writer hears of each
-/// step.
+/// Searches a problem under a watch until the time is over, if it is limited, writes the answer, and returns how that ended. The writer hears of
+/// each step.
 fn write_searched<V: EndWatch>(
     rt: &HostRuntime,
     limits: &SearchLimits,
     problem: &Problem,
     inner: &mut V,
     writer: &mut CaseWriter<CountedWriter<File>>,
-) -> Result<u8, EngineFault>
+) -> Result<Written, EngineFault>
     requires { V.may_stop ≡ false }
 {
     let alloc = rt.alloc();
-    let mut sink = CountedWriter::new(rt.stdout());
+    let mut sink = output(rt);
     // (two ways: without a limit of time the watch stops nothing, so there is always an answer)
     if limits.time.is_some() {
         let mut watch = TimedWatch {
@@ -252,10 +242,9 @@ fn reason_into(rt: &HostRuntime, problem: &Problem, file: File) -> CertifiedEnd 
     let Ok(mut writer) = CaseWriter::new(alloc, problem, CountedWriter::new(file)) else {
         return CertifiedEnd::out_of_memory();
     };
-    let mut sink = CountedWriter::new(rt.stdout());
-    let status = why_problem(alloc, problem, &mut writer, &mut sink);
+    let written = why_problem(alloc, problem, &mut writer, &mut output(rt));
     CertifiedEnd {
-        status,
+        written,
         is_whole: writer.end(),
         is_begun: writer.is_begun(),
     }
@@ -264,25 +253,29 @@ fn reason_into(rt: &HostRuntime, problem: &Problem, file: File) -> CertifiedEnd 
 /// Learns from a problem, and writes the answer, and to the file a certificate.
 fn learn_into<E: Sink>(
     rt: &HostRuntime,
-    request: &Request<'_>,
-    limits: &SearchLimits,
+    asked: &Asked<'_, '_>,
     problem: &Problem,
     file: File,
     errors: &mut E,
 ) -> CertifiedEnd {
+    let request = asked.request;
     let Ok(writer) = ClauseWriter::new(rt.alloc(), problem, CountedWriter::new(file)) else {
         return CertifiedEnd::out_of_memory();
     };
-    let mut sink = CountedWriter::new(rt.stdout());
     let mut watch = CertifyingWatch {
-        watch: LearnWatch::new(rt, limits.time, errors, line_style(rt, request.progress)),
+        watch: LearnWatch::new(
+            rt,
+            asked.limits.time,
+            errors,
+            line_style(rt, request.progress),
+        ),
         writer,
     };
     let settings = learner_settings(request);
-    let status = learn_problem(rt.alloc(), problem, settings, &mut watch, &mut sink);
+    let written = learn_problem(rt.alloc(), problem, settings, &mut watch, &mut output(rt));
     watch.watch.end();
     CertifiedEnd {
-        status,
+        written,
         is_whole: watch.writer.end(),
         is_begun: true,
     }

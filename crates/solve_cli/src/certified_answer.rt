@@ -1,13 +1,13 @@
 //! `answer` with a certificate: the search and the learner write one each, and only that of the first of them stays.
 
 use crate::certificate_place::CertificatePlace;
-use crate::certified::{Asked, fate_of, tell_status};
-use crate::line_style;
+use crate::certified::{Asked, fate_of, tell_written};
+use crate::{line_style, output};
 use answer_engine::{Listeners, Task, write_heard_answer};
 use certificate_writer::{CaseWriter, CertificateFate, CertifyingWatch, ClauseWriter};
-use cover_engines::{EngineFault, ProgressLog};
+use cover_engines::{EngineFault, ProgressLog, Written};
 use cover_problem::Problem;
-use dlx_reader::{CountedWriter, Sink};
+use dlx_reader::{CountedWriter, Read, Sink};
 use learner::{Figures, LearnerWatch};
 use std::alloc::{AllocError, Global};
 use std::fs::File;
@@ -55,8 +55,8 @@ struct Places {
 /// How a run ended that wrote two certificates beside its answer.
 #[derive(Drop)]
 struct AnsweredEnd {
-    /// The status of the answer.
-    status: Result<u8, EngineFault>,
+    /// The status of the answer, and why there is none.
+    written: Result<Written, EngineFault>,
     /// Whether it is the learner's.
     is_learned: bool,
     /// Whether all of the certificate was written that goes with it.
@@ -105,13 +105,14 @@ fn answer_into<E: Sink, R: Threads + Wait + Clock + Sync>(
     rt: &HostRuntime,
     threads: &R,
     asked: &Asked<'_, '_>,
+    problem: &Problem,
     lines: Lines,
     errors: &mut E,
 ) -> AnsweredEnd {
-    let (alloc, problem) = (rt.alloc(), &asked.read.problem);
+    let alloc = rt.alloc();
     let Ok(mut writers) = writers_of(alloc, problem, lines) else {
         return AnsweredEnd {
-            status: Err(EngineFault::Memory),
+            written: Err(EngineFault::Memory),
             is_learned: false,
             is_whole: false,
         };
@@ -123,9 +124,8 @@ fn answer_into<E: Sink, R: Threads + Wait + Clock + Sync>(
         threads: LANES,
         reason: asked.request.reason,
     };
-    let mut sink = CountedWriter::new(rt.stdout());
     let log = ProgressLog::new(errors, line_style(rt, asked.request.progress));
-    let status = write_heard_answer(&task, problem, &mut writers, &mut sink, log);
+    let written = write_heard_answer(&task, problem, &mut writers, &mut output(rt), log);
     let is_learned = writers.is_learned;
     let is_whole = if is_learned {
         writers.learner.writer.end()
@@ -133,7 +133,7 @@ fn answer_into<E: Sink, R: Threads + Wait + Clock + Sync>(
         writers.search.end()
     };
     AnsweredEnd {
-        status,
+        written,
         is_learned,
         is_whole,
     }
@@ -144,20 +144,21 @@ pub(crate) fn certify_answer<E: Sink, R: Threads + Wait + Clock + Sync>(
     rt: &HostRuntime,
     threads: &R,
     asked: &Asked<'_, '_>,
+    read: &Read,
     errors: &mut E,
 ) -> u8 {
     let (Places { search, learner }, lines) = match create(rt, asked) {
         Ok(made) => made,
         Err(fate) => return fate.tell(asked.name, 3, errors),
     };
-    let ended = answer_into(rt, threads, asked, lines, errors);
+    let ended = answer_into(rt, threads, asked, &read.problem, lines, errors);
     let (kept, other) = if ended.is_learned {
         (learner, search)
     } else {
         (search, learner)
     };
     let _ = other.end(rt, CertificateFate::Unneeded);
-    let status = tell_status(rt, asked, ended.status, errors);
-    let fate = fate_of(rt, &asked.read.problem, &kept, status, ended.is_whole);
+    let status = tell_written(asked, read, ended.written, errors);
+    let fate = fate_of(rt, &read.problem, &kept, status, ended.is_whole);
     kept.end(rt, fate).tell(asked.name, status, errors)
 }

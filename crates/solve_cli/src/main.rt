@@ -5,12 +5,12 @@ mod certificate_place;
 mod certified;
 mod certified_answer;
 
-ghost use Rattle.std.specs.Prelude.{◌≡◌, IfOk};
+ghost use Rattle.std.specs.Prelude.{◌≡◌};
 
 use answer_engine::Task;
 pub use answer_engine::{AnswerEnd, answer_engine};
 use certificate_engine::{begins_certificate, certificate_engine};
-use certified::run_certified;
+use certified::{Asked, run_certified};
 use command_line::request;
 pub use command_line::{SettingsFault, settings};
 pub use cover_engines::{
@@ -18,40 +18,46 @@ pub use cover_engines::{
     simulate_engine, solve_engine, tell, tell_fault,
 };
 use cover_engines::{
-    LineStyle, Loopback, Machine, ProgressLog, Remembered, SearchLimits, TimeLimit,
-    USUAL_BOOK_BYTES, Unanswered, alone_within, book_bytes_of, check_within, tell_end_of,
+    EngineEnd, Failure, LineStyle, Loopback, Machine, ProgressLog, SearchLimits, TimeLimit,
+    USUAL_BOOK_BYTES, Unread, alone_within, book_bytes_of, check_within, names_of, read_input,
+    simulate_source, tell_end_of,
     tell_unanswered, tell_unopened,
 };
-use dlx_reader::{CountedReader, CountedWriter, Sink, Source};
+use dlx_reader::{CountedReader, CountedWriter, Sink};
 use either::Either;
 use learn_engine::LearnWatch;
 pub use learn_engine::{LearnEnd, learn_engine};
 pub use reason_engine::{WhyEnd, why_engine};
 pub use run_settings::{Mode, Settings};
 use run_settings::{Request, STANDARD_INPUT};
-use search_engines::read_all;
 use std::env;
 use std::fs::{self, File};
-use std::io::{self, ErrorKind, IsTerminal, Stdin};
+use std::io::{self, ErrorKind, IsTerminal, Stdin, Stdout};
 use std::net::Net;
 use std::process::ExitCode;
 use std::sync::Wait;
 use std::thread::{self, Threads};
 use std::time::{Clock, Duration};
 
-/// What is read: a file, or standard input. The text is kept, so that a message can quote a name in it.
-type Input = Remembered<CountedReader<Either<File, Stdin>>>;
+/// What is read: a file, or standard input.
+type Input = CountedReader<Either<File, Stdin>>;
 
 /// Opens what a word of the command line names: a file, or standard input for `-`. A folder can't be opened.
-fn open(rt: &HostRuntime, name: &str) -> io::Result<Input>
-    ensures { IfOk result (λ source. source.inner.failures ≡ 0) }
-{
+fn open(rt: &HostRuntime, name: &str) -> io::Result<Input> {
     let input = if name == STANDARD_INPUT {
         Either::Right(rt.stdin())
     } else {
         Either::Left(open_file(rt, name)?)
     };
-    Ok(Remembered::new(rt.alloc(), CountedReader::new(input)))
+    Ok(CountedReader::new(input))
+}
+
+/// Opens what a word of the command line names. The error is the exit status of a run that can't, and why it can't is reported.
+fn open_told<E: Sink>(rt: &HostRuntime, name: &str, errors: &mut E) -> Result<Input, u8> {
+    match open(rt, name) {
+        Ok(input) => Ok(input),
+        Err(error) => Err(tell_unopened(name, error.kind(), errors)),
+    }
 }
 
 /// Opens the file of this name. A folder is refused here: the system opens it, and fails only at the first read.
@@ -79,15 +85,6 @@ fn limits_of(rt: &HostRuntime, request: &Request<'_>) -> SearchLimits {
     }
 }
 
-/// Returns why a search by one thread ends without an answer, if it does now. Where both limits are met, the time comes first.
-fn unanswered(rt: &HostRuntime, request: &Request<'_>, limits: &SearchLimits) -> Unanswered {
-    if limits.is_late(rt) {
-        Unanswered::Time
-    } else {
-        Unanswered::by_fuel(request.settings.fuel)
-    }
-}
-
 /// Returns how lines of progress follow one another on standard error, if it is followed.
 fn line_style(rt: &HostRuntime, is_followed: bool) -> LineStyle {
     if !is_followed {
@@ -99,35 +96,32 @@ fn line_style(rt: &HostRuntime, is_followed: bool) -> LineStyle {
     }
 }
 
-/// Runs `alone` on a file, and returns the exit status.
-fn run_alone(rt: &HostRuntime, request: &Request<'_>) -> u8 {
-    let mut errors = CountedWriter::new(rt.stderr());
-    // (the time counts from here, so opening and reading the file is part of it)
-    let limits = limits_of(rt, request);
-    let mut source = match open(rt, request.settings.file) {
-        Ok(source) => source,
-        Err(error) => return tell_unopened(request.settings.file, error.kind(), &mut errors),
-    };
-    let ended = search_alone(rt, request, &limits, &mut source, &mut errors);
-    let status = tell_end_of(&ended, request.settings.file, &mut errors);
-    source.tell_unknown(status, &mut errors);
-    tell_unanswered(&ended, unanswered(rt, request, &limits), &mut errors);
+/// Returns where the answer is written.
+fn output(rt: &HostRuntime) -> CountedWriter<Stdout> {
+    CountedWriter::new(rt.stdout())
+}
+
+/// Reports how a run ended, and returns the exit status.
+fn tell_ended<E: Sink>(
+    ended: &Result<EngineEnd, Failure>,
+    settings: &Settings<'_>,
+    errors: &mut E,
+) -> u8 {
+    let status = tell_end_of(ended, names_of(settings), errors);
+    tell_unanswered(ended, errors);
     status
 }
 
 /// Searches the problem in a source, and writes the answer; progress, if it is asked for, goes to the other sink.
-fn search_alone<W: Sink>(
+fn run_alone<E: Sink>(
     rt: &HostRuntime,
     request: &Request<'_>,
     limits: &SearchLimits,
     source: &mut Input,
-    errors: &mut W,
-) -> Result<AloneEnd, EngineFault>
-    requires { source.old.inner.failures ≡ 0 }
-{
-    let mut sink = CountedWriter::new(rt.stdout());
+    errors: &mut E,
+) -> Result<AloneEnd, Failure> {
     let log = ProgressLog::new(errors, line_style(rt, request.progress));
-    alone_within(rt, rt.alloc(), limits, source, &mut sink, log)
+    alone_within(rt, rt.alloc(), limits, source, &mut output(rt), log)
 }
 
 /// How many threads may look for an answer at once: as many as asked for, or else as there are processors; one where the system doesn't
@@ -140,19 +134,15 @@ fn threads_of<R: Threads>(threads: &R, request: &Request<'_>) -> u64 {
     }
 }
 
-/// Runs `answer` on a file, and returns the exit status.
-fn run_answer<R: Threads + Wait + Clock + Sync>(
+/// Looks for any answer to the problem in a source, and writes it; progress, if it is asked for, goes to the other sink.
+fn run_answer<E: Sink, R: Threads + Wait + Clock + Sync>(
     rt: &HostRuntime,
     threads: &R,
     request: &Request<'_>,
-) -> u8 {
-    let mut errors = CountedWriter::new(rt.stderr());
-    // (the time counts from here, so opening and reading the file is part of it)
-    let limits = limits_of(rt, request);
-    let mut source = match open(rt, request.settings.file) {
-        Ok(source) => source,
-        Err(error) => return tell_unopened(request.settings.file, error.kind(), &mut errors),
-    };
+    limits: &SearchLimits,
+    source: &mut Input,
+    errors: &mut E,
+) -> Result<AnswerEnd, Failure> {
     let task = Task {
         rt: threads,
         alloc: rt.alloc(),
@@ -160,105 +150,46 @@ fn run_answer<R: Threads + Wait + Clock + Sync>(
         threads: threads_of(threads, request),
         reason: request.reason,
     };
-    let mut sink = CountedWriter::new(rt.stdout());
-    let log = ProgressLog::new(&mut errors, line_style(rt, request.progress));
-    let ended = answer_engine(&task, &mut source, &mut sink, log);
-    let status = tell_end_of(&ended, request.settings.file, &mut errors);
-    source.tell_unknown(status, &mut errors);
-    tell_unanswered(&ended, Unanswered::TimeOfAllWays, &mut errors);
-    status
+    let log = ProgressLog::new(errors, line_style(rt, request.progress));
+    answer_engine(&task, source, &mut output(rt), log)
 }
 
-/// Runs `check` on a file and an answer's or a certificate's file, and returns the exit status.
-fn run_check(rt: &HostRuntime, request: &Request<'_>) -> u8
+/// Tests an answer's or a certificate's file, and returns the exit status.
+fn run_check<E: Sink>(
+    rt: &HostRuntime,
+    request: &Request<'_>,
+    limits: &SearchLimits,
+    file: &mut Input,
+    errors: &mut E,
+) -> u8
     requires { request.now.settings.mode ≡ Mode.Check }
 {
-    let settings = &request.settings;
-    let mut errors = CountedWriter::new(rt.stderr());
     // (settings for a check can't be made without an answer's file, and the prover knows that by their type)
-    let Some(answer_name) = settings.answer else {
+    let Some(name) = request.settings.answer else {
         unreachable!()
     };
-    let limits = limits_of(rt, request);
-    let mut file = match open(rt, settings.file) {
-        Ok(file) => file,
-        Err(error) => return tell_unopened(settings.file, error.kind(), &mut errors),
-    };
-    let mut answer = match open(rt, answer_name) {
+    let mut answer = match open_told(rt, name, errors) {
         Ok(answer) => answer,
-        Err(error) => return tell_unopened(answer_name, error.kind(), &mut errors),
+        Err(status) => return status,
     };
-    let ended = check_inputs(rt, request, &limits, &mut file, &mut answer);
-    let unread = if file.failures() > 0 {
-        settings.file
-    } else {
-        answer_name
-    };
-    let status = tell_end_of(&ended, unread, &mut errors);
-    file.tell_unknown(status, &mut errors);
-    tell_unanswered(&ended, unanswered(rt, request, &limits), &mut errors);
-    status
+    let ended = check_inputs(rt, limits, file, &mut answer);
+    tell_ended(&ended, &request.settings, errors)
 }
 
 /// Tests the answer, or the certificate, in one source to the problem in the other, and writes whether it is right.
 fn check_inputs(
     rt: &HostRuntime,
-    request: &Request<'_>,
     limits: &SearchLimits,
     file: &mut Input,
     answer: &mut Input,
-) -> Result<CheckEnd, EngineFault>
-    requires file { file.old.inner.failures ≡ 0 }
-    requires answer { answer.old.inner.failures ≡ 0 }
-{
-    let mut sink = CountedWriter::new(rt.stdout());
+) -> Result<CheckEnd, Failure> {
     let alloc = rt.alloc();
-    let given = read_all(alloc, answer)?;
+    let given = read_input(alloc, Unread::Answer, answer)?;
     if begins_certificate(&given) {
-        return certificate_engine(alloc, file, &given, &mut sink);
+        return certificate_engine(alloc, file, &given, &mut output(rt));
     }
     let answer = &mut CountedReader::new(given.as_slice());
-    check_within(rt, alloc, limits, file, answer, &mut sink)
-}
-
-/// Runs `why` on a file, and returns the exit status.
-fn run_why(rt: &HostRuntime, settings: &Settings<'_>) -> u8 {
-    let mut errors = CountedWriter::new(rt.stderr());
-    let mut source = match open(rt, settings.file) {
-        Ok(source) => source,
-        Err(error) => return tell_unopened(settings.file, error.kind(), &mut errors),
-    };
-    let mut sink = CountedWriter::new(rt.stdout());
-    let ended = why_engine(rt.alloc(), &mut source, &mut sink);
-    let status = tell_end_of(&ended, settings.file, &mut errors);
-    source.tell_unknown(status, &mut errors);
-    status
-}
-
-/// Runs `learn` on a file, and returns the exit status.
-fn run_learn(rt: &HostRuntime, request: &Request<'_>) -> u8 {
-    let mut errors = CountedWriter::new(rt.stderr());
-    // (the time counts from here, so opening and reading the file is part of it)
-    let limits = limits_of(rt, request);
-    let mut source = match open(rt, request.settings.file) {
-        Ok(source) => source,
-        Err(error) => return tell_unopened(request.settings.file, error.kind(), &mut errors),
-    };
-    let ended = learn(rt, request, &limits, &mut source, &mut errors);
-    let status = tell_end_of(&ended, request.settings.file, &mut errors);
-    source.tell_unknown(status, &mut errors);
-    tell_unanswered(&ended, why_unlearned(rt, &limits), &mut errors);
-    status
-}
-
-/// Returns why a learner ends without an answer, if it does now.
-fn why_unlearned(rt: &HostRuntime, limits: &SearchLimits) -> Unanswered {
-    // (without a limit of time it ends without an answer only where its clauses have no room)
-    if limits.is_late(rt) {
-        Unanswered::Time
-    } else {
-        Unanswered::Room
-    }
+    check_within(rt, alloc, limits, file, answer, &mut output(rt))
 }
 
 /// Returns the settings of a learner.
@@ -270,41 +201,23 @@ fn learner_settings(request: &Request<'_>) -> learner::Settings {
 }
 
 /// Learns from the problem in a source, and writes the answer; progress, if it is asked for, goes to the other sink.
-fn learn<W: Sink>(
+fn run_learn<E: Sink>(
     rt: &HostRuntime,
     request: &Request<'_>,
     limits: &SearchLimits,
     source: &mut Input,
-    errors: &mut W,
-) -> Result<LearnEnd, EngineFault>
-    requires { source.old.inner.failures ≡ 0 }
-{
-    let mut sink = CountedWriter::new(rt.stdout());
+    errors: &mut E,
+) -> Result<LearnEnd, Failure> {
     let mut watch = LearnWatch::new(rt, limits.time, errors, line_style(rt, request.progress));
     let ended = learn_engine(
         rt.alloc(),
         learner_settings(request),
         source,
-        &mut sink,
+        &mut output(rt),
         &mut watch,
     );
     watch.end();
     ended
-}
-
-/// Runs `simulate` on a file, and returns the exit status.
-fn run_simulate(rt: &HostRuntime, settings: &Settings<'_>) -> u8 {
-    let mut errors = CountedWriter::new(rt.stderr());
-    let mut source = match open(rt, settings.file) {
-        Ok(source) => source,
-        Err(error) => return tell_unopened(settings.file, error.kind(), &mut errors),
-    };
-    let mut sink = CountedWriter::new(rt.stdout());
-    let ended = simulate_engine(rt.alloc(), settings, &mut source, &mut sink);
-    let status = tell_end_of(&ended, settings.file, &mut errors);
-    source.tell_unknown(status, &mut errors);
-    tell_unanswered(&ended, Unanswered::Unpublished, &mut errors);
-    status
 }
 
 /// Where the system says how much memory the machine has.
@@ -318,19 +231,14 @@ fn book_bytes(rt: &HostRuntime) -> u64 {
     }
 }
 
-/// Runs `solve` on a file, and returns the exit status.
-fn run_solve<R: Threads + Wait + Clock + Net + Sync>(
+/// Lets sites search the problem in a source, and returns the exit status.
+fn run_solve<E: Sink + Send, R: Threads + Wait + Clock + Net + Sync>(
     rt: &HostRuntime,
     threads: &R,
     request: &Request<'_>,
+    source: &mut Input,
+    errors: &mut E,
 ) -> u8 {
-    let mut errors = CountedWriter::new(rt.stderr());
-    let name = request.settings.file;
-    let mut source = match open(rt, name) {
-        Ok(source) => source,
-        Err(error) => return tell_unopened(name, error.kind(), &mut errors),
-    };
-    let mut sink = CountedWriter::new(rt.stdout());
     let machine = Machine {
         rt: threads,
         alloc: rt.alloc(),
@@ -341,29 +249,46 @@ fn run_solve<R: Threads + Wait + Clock + Net + Sync>(
         lines: line_style(rt, request.progress),
         book_bytes: book_bytes(rt),
     };
-    let status = machine.solve(request, &mut source, &mut sink, &mut errors);
-    source.tell_unknown(status, &mut errors);
-    status
+    machine.solve(request, source, &mut output(rt), errors)
 }
 
-/// Runs what is asked for, and returns the exit status.
+/// Runs what is asked for on the problem's file, and returns the exit status.
+fn run_opened<E: Sink + Send, R: Threads + Wait + Clock + Net + Sync>(
+    rt: &HostRuntime,
+    threads: &R,
+    request: &Request<'_>,
+    limits: &SearchLimits,
+    source: &mut Input,
+    errors: &mut E,
+) -> u8 {
+    if let Some(asked) = Asked::of(request, limits) {
+        return run_certified(rt, threads, &asked, source, errors);
+    }
+    let settings = &request.settings;
+    let ended = match settings.mode {
+        Mode::Answer => run_answer(rt, threads, request, limits, source, errors),
+        Mode::Alone => run_alone(rt, request, limits, source, errors),
+        Mode::Check => return run_check(rt, request, limits, source, errors),
+        Mode::Why => why_engine(rt.alloc(), source, &mut output(rt)),
+        Mode::Learn => run_learn(rt, request, limits, source, errors),
+        Mode::Simulate => simulate_source(rt.alloc(), settings, source, &mut output(rt)),
+        Mode::Solve => return run_solve(rt, threads, request, source, errors),
+    };
+    tell_ended(&ended, settings, errors)
+}
+
+/// Opens the problem's file, runs what is asked for on it, and returns the exit status.
 fn run_request<R: Threads + Wait + Clock + Net + Sync>(
     rt: &HostRuntime,
     threads: &R,
     request: &Request<'_>,
 ) -> u8 {
-    let settings = &request.settings;
-    if let Some(name) = request.certificate {
-        return run_certified(rt, threads, request, name);
-    }
-    match settings.mode {
-        Mode::Answer => run_answer(rt, threads, request),
-        Mode::Alone => run_alone(rt, request),
-        Mode::Check => run_check(rt, request),
-        Mode::Why => run_why(rt, settings),
-        Mode::Learn => run_learn(rt, request),
-        Mode::Simulate => run_simulate(rt, settings),
-        Mode::Solve => run_solve(rt, threads, request),
+    let mut errors = CountedWriter::new(rt.stderr());
+    // (the time counts from here, so opening and reading the file is part of it)
+    let limits = limits_of(rt, request);
+    match open_told(rt, request.settings.file, &mut errors) {
+        Ok(mut source) => run_opened(rt, threads, request, &limits, &mut source, &mut errors),
+        Err(status) => status,
     }
 }
 

@@ -3,4 +3,4 @@
 
 mod simulate;
 
-pub use simulate::{SimulateEnd, simulate_engine};
+pub use simulate::{SimulateEnd, simulate_engine, simulate_source};

@@ -6,7 +6,8 @@ ghost use Rattle.cover_world.specs.Courses.{opening_core};
 ghost use Rattle.dlx_reader.specs.Devices.{failed_once};
 ghost use Rattle.dlx_reader.specs.Writing.{IsWritable};
 ghost use Rattle.search_engines.specs.Engines.{IsEnded, refuses_none};
-ghost use Rattle.search_engines.specs.Output.{IsOutputOf};
+ghost use Rattle.search_engines.specs.Failures.{Tells, plain};
+ghost use Rattle.search_engines.specs.Output.{IsOutputOf, status_in};
 ghost use Rattle.world_engine.specs.Simulate.{IsSimulated, SimulateSays};
 
 use cover_problem::{Answer, Problem};
@@ -15,7 +16,9 @@ use dlx_reader::{Sink, Source};
 use rand_core::SeedableRng;
 use rand_pcg::Pcg32;
 use run_settings::Settings;
-use search_engines::{EngineEnd, EngineFault, problem_of, read_all, write_published};
+use search_engines::{
+    EngineEnd, EngineFault, Failure, Unanswered, Written, ended_with, read_whole, write_published,
+};
 use std::alloc::Global;
 
 /// How a run of `simulate` ended: with status 0 for a cover, 1 for none, 4 where nothing was published.
@@ -75,19 +78,46 @@ fn simulated(
     }
 }
 
-/// Writes what a simulation of the problem publishes, and returns the status.
+/// Writes what a simulation of the problem publishes, and returns how that ended.
 fn write_simulation<W: Sink>(
     alloc: Global,
     settings: &Settings,
     problem: &Problem,
     sink: &mut W,
-) -> Result<u8, EngineFault>
+) -> Result<Written, EngineFault>
     ensures output { IsOutputOf (SimulateSays settings.now problem.now) (W.contents sink.old)
-        (W.contents sink.new) result }
+        (W.contents sink.new) (status_in result) }
     ensures failed { result ≡ Err EngineFault.Write → W.failed sink.new ≡ failed_once (W.failed sink.old) }
 {
     let answer = simulated(alloc, settings, problem)?;
-    write_published(problem, answer.as_ref(), sink)
+    let why = match &answer {
+        Some(_) => None,
+        None => Some(Unanswered::Unpublished),
+    };
+    let status = write_published(problem, answer.as_ref(), sink)?;
+    Ok(Written { status, why })
+}
+
+/// Does what `simulate_engine` does. Where nothing is published the end says so, and where the text is refused since no item has a name, the
+/// failure has that.
+pub fn simulate_source<R: Source, W: Sink>(
+    alloc: Global,
+    settings: &Settings,
+    source: &mut R,
+    sink: &mut W,
+) -> Result<SimulateEnd, Failure>
+    ensures ended { IfSome (R.remaining source.old) (λ text.
+        IsEnded (SimulateSays settings.now) refuses_none text (W.contents sink.old)
+        (W.contents sink.new) (plain result)) }
+    ensures read { plain result ≢ Err EngineFault.Read → plain result ≢ Err EngineFault.Memory →
+        IsAtEnd (R.remaining source.new) }
+    ensures read_fault { plain result ≡ Err EngineFault.Read → R.failed source.new ≡ failed_once (R.failed source.old) }
+    ensures write_fault { plain result ≡ Err EngineFault.Write → W.failed sink.new ≡ failed_once (W.failed sink.old) }
+    ensures told { IfSome (R.remaining source.old) (λ text. IfErr result (Tells text)) }
+{
+    let read = read_whole(alloc, source)?;
+    let written = write_simulation(alloc, settings, &read.problem, sink);
+    ended_with(written, read.ignored)
 }
 
 /// Reads a problem to its end, lets a world of sites search it by chance, as the settings say, and writes the answer that it publishes,
@@ -111,11 +141,5 @@ pub fn simulate_engine<R: Source, W: Sink>(
     ensures read_fault { result ≡ Err EngineFault.Read → R.failed source.new ≡ failed_once (R.failed source.old) }
     ensures write_fault { result ≡ Err EngineFault.Write → W.failed sink.new ≡ failed_once (W.failed sink.old) }
 {
-    let text = read_all(alloc, source)?;
-    let read = problem_of(alloc, &text)?;
-    let status = write_simulation(alloc, settings, &read.problem, sink)?;
-    Ok(EngineEnd {
-        status,
-        ignored: read.ignored,
-    })
+    Ok(simulate_source(alloc, settings, source, sink)?)
 }

@@ -315,7 +315,7 @@ def explain_answer(problem: Problem, answer: Answer) -> Iterator[str]:
 # ---- the whole
 
 def beside(fault: Fault) -> list[str]:
-    """What the program writes beside a refusal: the name that no item has. (Of a text above a megabyte it writes nothing.)"""
+    """What the program writes beside a refusal: the name that no item has."""
     if fault.name != "UnknownItem" or fault.word is None:
         return []
     return ["no item is named " + shown(fault.word.text.partition(b":")[0])]

@@ -152,7 +152,7 @@ fn answered(rt: &HostRuntime, problem: &str, out: &mut Vec<u8>) -> Option<(u8, b
             &mut sink,
         );
         writer.end();
-        came.ok()?
+        came.ok()?.status
     };
     let checked = check_certificate(alloc, &read.problem, &text).ok()?;
     Some((status, checked == Checked::Right))

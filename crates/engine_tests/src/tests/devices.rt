@@ -6,11 +6,15 @@
 use super::run_output::RunOutput;
 use super::texts::LETTERS;
 use dlx_reader::{CountedReader, CountedWriter};
-use search_engines::{EngineFault, alone_engine, check_engine, tell, tell_fault};
+use search_engines::{
+    EngineFault, Failure, SearchLimits, Unread, alone_engine, check_engine, check_within, tell,
+    tell_fault,
+};
 use std::alloc::Global;
 use std::io;
 use std::io::{Read, Write};
 use std::process::Abort;
+use std::time::Clock;
 
 /// A reader that fails at its second read.
 #[derive(Drop)]
@@ -154,6 +158,54 @@ fn is_unreadable(alloc: Global) -> bool {
 #[test]
 fn unreadable_answer(rt: HostRuntime) {
     assert!(rt; is_unreadable(rt.alloc()));
+}
+
+/// A reader that has no bytes, or fails at its first read.
+#[derive(Drop)]
+struct Empty {
+    fails: bool,
+}
+
+impl Read for Empty {
+    fn read(&mut self, _buf: &mut [u8]) -> io::Result<usize> {
+        if self.fails {
+            Err(io::ErrorKind::Other.into())
+        } else {
+            Ok(0)
+        }
+    }
+}
+
+/// Whether the problem's file can't be read, and the answer's, each with which is said to be unreadable.
+static UNREAD: [(bool, bool, Option<Unread>); 4] = [
+    (false, false, None),
+    (false, true, Some(Unread::Answer)),
+    (true, false, Some(Unread::File)),
+    // (the problem's is read first)
+    (true, true, Some(Unread::File)),
+];
+
+/// Which input `check` within limits can't read.
+fn unread_input<C: Clock>(clock: &C, alloc: Global, file: bool, answer: bool) -> Option<Unread> {
+    let mut out = Vec::new(alloc);
+    let mut sink = CountedWriter::new(&mut out);
+    let limits = SearchLimits::new(None, None);
+    let mut file = CountedReader::new(Empty { fails: file });
+    let mut answer = CountedReader::new(Empty { fails: answer });
+    match check_within(clock, alloc, &limits, &mut file, &mut answer, &mut sink) {
+        Err(Failure::Unread(which)) => Some(which),
+        Ok(_) | Err(_) => None,
+    }
+}
+
+#[test]
+fn the_input_that_cannot_be_read_is_said(rt: HostRuntime) {
+    for (file, answer, which) in UNREAD.iter() {
+        assert!(rt;
+            unread_input(&rt, rt.alloc(), *file, *answer) == *which,
+            "{file} {answer}"
+        );
+    }
 }
 
 #[test]

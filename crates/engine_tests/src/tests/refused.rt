@@ -5,7 +5,7 @@
 
 ghost use Rattle.std.specs.Prelude.{◌≤◌};
 
-use super::run_output::RunOutput;
+use super::run_output::{RunOutput, plain};
 use super::{alone, check, within};
 use dlx_reader::{CountedReader, CountedWriter};
 use growth_marks::{begin, end};
@@ -132,7 +132,7 @@ fn alone_within_output<R: Abort + Clock>(
     let mut line_sink = CountedWriter::new(&mut lines);
     let log = ProgressLog::new(&mut line_sink, style);
     begin(alloc, ALONE_WITHIN).expect(rt, "memory");
-    let ended = alone_within(rt, alloc, limits, &mut source, &mut sink, log);
+    let ended = plain(alone_within(rt, alloc, limits, &mut source, &mut sink, log));
     if is_refused(rt, alloc, &ended, &out) {
         return within::alone(rt, alloc, text, limits);
     }
@@ -164,7 +164,7 @@ fn check_within_output<R: Abort + Clock>(
     let mut source = CountedReader::new(answer.as_bytes());
     let mut sink = CountedWriter::new(&mut out);
     begin(alloc, CHECK_WITHIN).expect(rt, "memory");
-    let ended = check_within(rt, alloc, limits, &mut file, &mut source, &mut sink);
+    let ended = plain(check_within(rt, alloc, limits, &mut file, &mut source, &mut sink));
     if is_refused(rt, alloc, &ended, &out) {
         return within::check(rt, alloc, text, answer, limits);
     }

@@ -1,5 +1,18 @@
 //! What an engine writes.
 
+use search_engines::{EngineEnd, EngineFault, Failure, InputNames};
+
+/// The names of the files that an engine reads.
+pub const NAMES: InputNames<'static> = InputNames {
+    file: "p.dlx",
+    answer: Some("a.txt"),
+};
+
+/// How an engine ended, without what a message names beside its fault.
+pub fn plain(ended: Result<EngineEnd, Failure>) -> Result<EngineEnd, EngineFault> {
+    Ok(ended?)
+}
+
 /// What is written to both outputs, and the status.
 #[derive(Drop)]
 pub struct RunOutput {

@@ -3,12 +3,12 @@
 //! Of the bugs of `search_engines` that are kept outside the gate, `a_search_ends_once_its_time_is_over` finds `time_without_a_limit_never_ends`.
 
 use super::progress::{QUEENS, Ticking};
-use super::run_output::RunOutput;
+use super::run_output::{NAMES, RunOutput};
 use super::texts::{LETTERS, NO_COVER};
 use dlx_reader::{CountedReader, CountedWriter};
 use search_engines::{
-    EngineEnd, EngineFault, LineStyle, ProgressLog, SearchLimits, TimeLimit, Unanswered,
-    alone_within, check_within, tell_end_of, tell_unanswered, tell_unopened,
+    EngineEnd, Failure, InputNames, LineStyle, ProgressLog, SearchLimits, TimeLimit, Unanswered,
+    Unread, alone_within, check_within, tell_end_of, tell_unanswered, tell_unopened,
 };
 use std::alloc::Global;
 use std::io::ErrorKind;
@@ -37,7 +37,7 @@ pub fn alone<C: Clock>(clock: &C, alloc: Global, text: &str, limits: &SearchLimi
     let mut error_sink = CountedWriter::new(&mut errors);
     let log = ProgressLog::new(&mut error_sink, LineStyle::Silent);
     let ended = alone_within(clock, alloc, limits, &mut source, &mut sink, log);
-    let status = tell_end_of(&ended, "p.dlx", &mut error_sink);
+    let status = tell_end_of(&ended, NAMES, &mut error_sink);
     RunOutput {
         out,
         errors,
@@ -59,7 +59,7 @@ pub fn check<C: Clock>(
     let mut answer = CountedReader::new(answer.as_bytes());
     let mut sink = CountedWriter::new(&mut out);
     let ended = check_within(clock, alloc, limits, &mut file, &mut answer, &mut sink);
-    let status = tell_end_of(&ended, "p.dlx", &mut CountedWriter::new(&mut errors));
+    let status = tell_end_of(&ended, NAMES, &mut CountedWriter::new(&mut errors));
     RunOutput {
         out,
         errors,
@@ -170,38 +170,102 @@ fn progress_goes_on_until_the_time_is_over(rt: HostRuntime) {
     assert!(rt; lines.as_slice() == b"1 s: 1024 visits,  43.6607 % of the tree\n".as_slice());
 }
 
+/// A fuel, or 0 for none, and seconds, with why a search of 2,331 visits ends that may last so long, and a check of `none`. The clock is a
+/// second later each time that it is read, so the time is over when the search ends, but for the long ones; what is said is what ended it.
+static CAUSES: [(u64, u64, Option<Unanswered>); 8] = [
+    (1900, 999_999, Some(Unanswered::Fuel)),
+    (1000, 0, Some(Unanswered::Fuel)),
+    (1, 0, Some(Unanswered::Fuel)),
+    (1900, 1, Some(Unanswered::Time)),
+    (u64::MAX, 1, Some(Unanswered::Time)),
+    (0, 1, Some(Unanswered::Time)),
+    (u64::MAX, 999_999, None),
+    (0, 999_999, None),
+];
+
+/// Why `alone` on a problem ends within limits, if it has no answer.
+fn alone_ends(
+    clock: &Ticking,
+    alloc: Global,
+    text: &str,
+    limits: &SearchLimits,
+) -> Option<Unanswered> {
+    let (mut out, mut lines) = (Vec::new(alloc), Vec::new(alloc));
+    let mut source = CountedReader::new(text.as_bytes());
+    let mut sink = CountedWriter::new(&mut out);
+    let mut errors = CountedWriter::new(&mut lines);
+    let log = ProgressLog::new(&mut errors, LineStyle::Silent);
+    let ended = alone_within(clock, alloc, limits, &mut source, &mut sink, log);
+    ended.ok()?.why
+}
+
+/// Why `check` of `none` ends within limits, if it has no answer.
+fn check_ends(
+    clock: &Ticking,
+    alloc: Global,
+    text: &str,
+    limits: &SearchLimits,
+) -> Option<Unanswered> {
+    let mut out = Vec::new(alloc);
+    let mut file = CountedReader::new(text.as_bytes());
+    let mut answer = CountedReader::new(b"none\n".as_slice());
+    let mut sink = CountedWriter::new(&mut out);
+    let ended = check_within(clock, alloc, limits, &mut file, &mut answer, &mut sink);
+    ended.ok()?.why
+}
+
+#[test]
+fn what_ended_a_search_is_said(rt: HostRuntime) {
+    for (fuel, seconds, why) in CAUSES.iter() {
+        let clock = ticking();
+        let within = limits(&clock, *fuel, *seconds);
+        assert!(rt;
+            alone_ends(&clock, rt.alloc(), QUEENS, &within) == *why,
+            "alone {fuel} {seconds}"
+        );
+        let clock = ticking();
+        let within = limits(&clock, *fuel, *seconds);
+        assert!(rt;
+            check_ends(&clock, rt.alloc(), QUEENS, &within) == *why,
+            "check {fuel} {seconds}"
+        );
+    }
+}
+
 /// Statuses and reasons, each with the line that is written.
-static UNANSWERED: [(u8, Unanswered, &str); 8] = [
-    (0, Unanswered::Fuel, ""),
-    (1, Unanswered::Time, ""),
+static UNANSWERED: [(u8, Option<Unanswered>, &str); 9] = [
+    (0, None, ""),
+    (1, None, ""),
+    // (`why` has no limit that could be met)
+    (4, None, ""),
     (
         4,
-        Unanswered::Fuel,
+        Some(Unanswered::Fuel),
         "ended: the fuel is spent: try more --fuel, or --unlimited\n",
     ),
     (
         4,
-        Unanswered::GreatestFuel,
+        Some(Unanswered::GreatestFuel),
         "ended: more visits than can be counted, 2^64 - 1: try answer FILE, or --unlimited, which have no such limit\n",
     ),
     (
         4,
-        Unanswered::Time,
+        Some(Unanswered::Time),
         "ended: the time is over: try more --seconds, or answer\n",
     ),
     (
         4,
-        Unanswered::TimeOfAllWays,
+        Some(Unanswered::TimeOfAllWays),
         "ended: the time is over: try more --seconds\n",
     ),
     (
         4,
-        Unanswered::Room,
+        Some(Unanswered::Room),
         "ended: the room for what is learned is full: try another --seed, or answer\n",
     ),
     (
         4,
-        Unanswered::Unpublished,
+        Some(Unanswered::Unpublished),
         "ended: nothing was published: try alone --unlimited\n",
     ),
 ];
@@ -213,8 +277,9 @@ fn no_answer_has_its_reason(rt: HostRuntime) {
         let end = EngineEnd {
             status: *status,
             ignored: 0,
+            why: *why,
         };
-        tell_unanswered(&Ok(end), *why, &mut CountedWriter::new(&mut errors));
+        tell_unanswered(&Ok(end), &mut CountedWriter::new(&mut errors));
         assert!(rt; errors.as_slice() == line.as_bytes(), "{line}");
     }
     assert!(rt; Unanswered::by_fuel(u64::MAX) == Unanswered::GreatestFuel);
@@ -246,6 +311,12 @@ static KINDS: [(ErrorKind, &str); 6] = [
     ),
 ];
 
+/// Which input can't be read, each with the words for it.
+static INPUTS: [(Unread, &str); 2] = [
+    (Unread::File, "cannot read: q: a read failed\n"),
+    (Unread::Answer, "cannot read: r: a read failed\n"),
+];
+
 #[test]
 fn a_file_that_cannot_be_read_is_named(rt: HostRuntime) {
     for (kind, line) in KINDS.iter() {
@@ -256,8 +327,17 @@ fn a_file_that_cannot_be_read_is_named(rt: HostRuntime) {
             "{line}"
         );
     }
-    let mut errors = Vec::new(rt.alloc());
-    let ended = Err(EngineFault::Read);
-    let status = tell_end_of(&ended, "q", &mut CountedWriter::new(&mut errors));
-    assert!(rt; status == 3 && errors.as_slice() == b"cannot read: q: a read failed\n".as_slice());
+    for (which, line) in INPUTS.iter() {
+        let mut errors = Vec::new(rt.alloc());
+        let names = InputNames {
+            file: "q",
+            answer: Some("r"),
+        };
+        let ended = Err(Failure::Unread(*which));
+        let status = tell_end_of(&ended, names, &mut CountedWriter::new(&mut errors));
+        assert!(rt;
+            status == 3 && errors.as_slice() == line.as_bytes(),
+            "{line}"
+        );
+    }
 }

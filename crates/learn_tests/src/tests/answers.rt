@@ -1,6 +1,6 @@
 //! `answer` over texts in memory, each with one cover or none; the expected values were worked out by hand.
 
-use super::{LETTERS, NO_COVER, RunOutput};
+use super::{LETTERS, NO_COVER, RunOutput, plain};
 use answer_engine::{Basis, Task, answer_engine};
 use dlx_reader::{CountedReader, CountedWriter};
 use search_engines::{LineStyle, ProgressLog, TimeLimit, tell_end};
@@ -21,7 +21,7 @@ fn answered<R: Threads + Wait + Clock + Sync>(
     let mut told = CountedWriter::new(&mut errors);
     let log = ProgressLog::new(&mut told, style);
     let ended = answer_engine(task, &mut source, &mut sink, log);
-    let status = tell_end(&ended, &mut told);
+    let status = tell_end(&plain(ended), &mut told);
     RunOutput {
         out,
         errors,

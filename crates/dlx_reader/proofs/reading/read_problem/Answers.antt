@@ -1,11 +1,7 @@
-use Rattle.dlx_reader.proofs.Determined.{has_problem, has_no_problem, has_first_fault}
+use Rattle.std.proofs.lemmas.Result.{err_from_is_err_and}
 use Rattle.dlx_reader.proofs.reading.read_problem.Goals as goal
 
-pub returns-clause-problem : goal.returns-clause-problem
-returns-clause-problem c = has_problem c.args.text.now c.read_lines.result c.read_lines.ensures
-
-pub returns-clause-refused : goal.returns-clause-refused
-returns-clause-refused c = has_no_problem c.args.text.now c.read_lines.result c.read_lines.ensures
-
-pub returns-clause-fault : goal.returns-clause-fault
-returns-clause-fault c = has_first_fault c.args.text.now c.read_lines.result c.read_lines.ensures
+pub returns-in_err-read_text-clause-refused : goal.returns-in_err-read_text-clause-refused
+returns-in_err-read_text-clause-refused c =
+    let returned = err_from_is_err_and c.from_residual.result c.from_residual.ensures.1 in
+    rw (returned.1, returned.2) c.in_err-read_text.ensures.refused

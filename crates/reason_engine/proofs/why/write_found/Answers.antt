@@ -1,7 +1,7 @@
 use Rattle.std.proofs.Common.{Some, refl}
 use Rattle.reason_engine.specs.Why.{WhySays, why_said}
 use Rattle.reason_engine.proofs.Saying.{output_of}
-use Rattle.reason_engine.proofs.why.why_problem.Goals as goal
+use Rattle.reason_engine.proofs.why.write_found.Goals as goal
 
 pub returns-in-Ok-Some-clause-output : goal.returns-in-Ok-Some-clause-output
 returns-in-Ok-Some-clause-output g c =

@@ -1,25 +1,23 @@
 //! What is written of a text beside its fault: the name that no item has.
 
-use super::run_output::RunOutput;
+use super::run_output::{NAMES, RunOutput};
 use dlx_reader::{CountedReader, CountedWriter};
-use search_engines::{Remembered, alone_engine, tell_end};
+use search_engines::{LineStyle, ProgressLog, SearchLimits, alone_within, tell_end_of};
 use std::alloc::{AllocError, Global};
 use std::test::Fail;
+use std::time::Clock;
 
-/// Runs `alone` on a text that is remembered, and returns what is written, with the unknown name.
-fn alone(alloc: Global, text: &[u8]) -> RunOutput {
+/// Runs `alone` on a text, and returns what is written, with the unknown name.
+fn alone<C: Clock>(clock: &C, alloc: Global, text: &[u8]) -> RunOutput {
     let mut out = Vec::new(alloc);
     let mut errors = Vec::new(alloc);
-    let mut source = Remembered::new(alloc, CountedReader::new(text));
-    let ended = alone_engine(
-        alloc,
-        u64::MAX,
-        &mut source,
-        &mut CountedWriter::new(&mut out),
-    );
-    let mut sink = CountedWriter::new(&mut errors);
-    let status = tell_end(&ended, &mut sink);
-    source.tell_unknown(status, &mut sink);
+    let mut source = CountedReader::new(text);
+    let mut sink = CountedWriter::new(&mut out);
+    let mut error_sink = CountedWriter::new(&mut errors);
+    let limits = SearchLimits::new(None, None);
+    let log = ProgressLog::new(&mut error_sink, LineStyle::Silent);
+    let ended = alone_within(clock, alloc, &limits, &mut source, &mut sink, log);
+    let status = tell_end_of(&ended, NAMES, &mut error_sink);
     RunOutput {
         out,
         errors,
@@ -53,7 +51,7 @@ static OUTPUTS: [(&str, &str, &str, u8); 6] = [
 fn names_are_told(rt: HostRuntime) {
     for (text, out, errors, status) in OUTPUTS.iter() {
         assert!(rt;
-            alone(rt.alloc(), text.as_bytes()).is(out, errors, *status),
+            alone(&rt, rt.alloc(), text.as_bytes()).is(out, errors, *status),
             "{text:?}"
         );
     }
@@ -67,15 +65,12 @@ fn behind(alloc: Global, bytes: usize) -> Result<Vec<u8>, AllocError> {
 }
 
 #[test]
-fn only_texts_of_a_megabyte_are_kept(rt: HostRuntime) -> Result<(), Fail> {
+fn names_are_told_of_texts_of_any_length(rt: HostRuntime) -> Result<(), Fail> {
     let alloc = rt.alloc();
-    let (first, both) = (
-        "refused: UnknownItem line 3\n",
-        "refused: UnknownItem line 3\nno item is named b\n",
-    );
-    for (bytes, errors) in [(20_000, both), (1_000_000, both), (1_100_000, first)] {
+    let told = "refused: UnknownItem line 3\nno item is named b\n";
+    for bytes in [20_000, 1_000_000, 1_100_000, 2_000_000] {
         let text = behind(alloc, bytes)?;
-        assert!(rt; alone(alloc, &text).is("", errors, 3), "{bytes} bytes");
+        assert!(rt; alone(&rt, alloc, &text).is("", told, 3), "{bytes} bytes");
     }
     Ok(())
 }
