@@ -1,10 +1,14 @@
 //! `answer` over texts in memory, each with one cover or none; the expected values were worked out by hand.
+//!
+//! Of the bugs of `answer_engine` that are kept outside the gate, `two_threads_find_a_reason` finds `no_reason_on_two_threads`.
 
 use super::{LETTERS, NO_COVER, RunOutput, plain};
 use answer_engine::{Basis, Task, answer_engine};
 use dlx_reader::{CountedReader, CountedWriter};
 use search_engines::{LineStyle, ProgressLog, TimeLimit, tell_end};
+use std::alloc::{AllocError, Global};
 use std::sync::Wait;
+use std::test::Fail;
 use std::thread::Threads;
 use std::time::{Clock, Duration};
 
@@ -111,4 +115,50 @@ fn answer_writes_what_it_rests_on(rt: HostRuntime) {
         let written = answered(&task, text, LineStyle::Silent);
         assert!(rt; written.is(out, errors, *status), "{text}");
     }
+}
+
+/// Adds so many names that begin with this letter.
+fn add_names(text: &mut String, alloc: Global, letter: char, count: u8) -> Result<(), AllocError> {
+    for number in 0..count {
+        text.push_str(format!(in alloc; " {letter}{number}")?.as_str())?;
+    }
+    Ok(())
+}
+
+/// Adds an option for a pigeon in each of so many holes.
+fn add_options(text: &mut String, alloc: Global, pigeon: u8, holes: u8) -> Result<(), AllocError> {
+    for hole in 0..holes {
+        text.push_str(format!(in alloc; "p{pigeon} h{hole}\n")?.as_str())?;
+    }
+    Ok(())
+}
+
+/// A problem of pigeons and holes, of which a pigeon takes one and a hole at most one.
+fn pigeons(alloc: Global, pigeons: u8, holes: u8) -> Result<String, AllocError> {
+    let mut text = String::new(alloc);
+    add_names(&mut text, alloc, 'p', pigeons)?;
+    text.push_str(" |")?;
+    add_names(&mut text, alloc, 'h', holes)?;
+    text.push('\n')?;
+    for pigeon in 0..pigeons {
+        add_options(&mut text, alloc, pigeon, holes)?;
+    }
+    Ok(text)
+}
+
+/// Where two threads work, too, a reason is looked for beside them: of 40 pigeons in 39 holes the search has 2^39 states, and no learner knows more.
+#[test]
+fn two_threads_find_a_reason(rt: HostRuntime) -> Result<(), Fail> {
+    let (rt, alloc) = (&rt, rt.alloc());
+    let task = Task {
+        rt,
+        alloc,
+        time: Some(TimeLimit::from_now(rt, Duration::from_secs(60))),
+        threads: 2,
+        reason: false,
+    };
+    let text = pigeons(alloc, 40, 39)?;
+    let written = answered(&task, text.as_str(), LineStyle::Silent);
+    assert!(rt; written.is("none\n", "", 1));
+    Ok(())
 }
