@@ -35,10 +35,25 @@ pub fn find_fractional_room_until<W: ReasonWatch>(
         return Ok(None);
     }
     let mut simplex = Simplex::new(alloc, problem)?;
-    if !is_infeasible(&mut simplex, watch) {
+    if !has_basis(alloc, &mut simplex, watch)? || !is_infeasible(&mut simplex, watch) {
         return Ok(None);
     }
     scaled_room(alloc, problem, &simplex)
+}
+
+/// Adds the lines of the first basis. Returns whether it has all, which it hasn't where the watch ends that; the only error is out of memory.
+fn has_basis<W: ReasonWatch>(
+    alloc: Global,
+    simplex: &mut Simplex,
+    watch: &mut W,
+) -> Result<bool, AllocError> {
+    for _ in 0..simplex.rows() {
+        if watch.look() {
+            return Ok(false);
+        }
+        simplex.add_line(alloc)?;
+    }
+    Ok(true)
 }
 
 /// Pivots to the end, or until the watch ends that. Returns whether multipliers were found.

@@ -28,7 +28,7 @@ pub use reason::{Reason, holds_of};
 pub use reason_finder::{
     find_fractional_reason_until, find_reason, find_reason_until, find_short_reason_until,
 };
-pub use reason_watch::{Endless, ReasonWatch};
+pub use reason_watch::{Endless, ReasonWatch, looks_at};
 pub use room::Room;
 pub use room_finder::{find_room, find_room_until};
 pub use room_test::{fits, is_plain, is_too_little, whole_amount};

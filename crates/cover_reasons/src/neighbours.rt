@@ -3,6 +3,7 @@
 ghost use Rattle.std.specs.Prelude.{◌≡◌, ◌<◌, length};
 
 use crate::bits::Bits;
+use crate::reason_watch::{ReasonWatch, looks_at};
 use cover_problem::Problem;
 use std::alloc::{AllocError, Global};
 
@@ -46,23 +47,35 @@ fn collect_primary(primary: usize, items: &[u16], set: &mut Bits) {
 }
 
 impl Neighbours {
-    /// What is known of a problem's items; the only error is out of memory.
-    pub fn new(alloc: Global, problem: &Problem) -> Result<Neighbours, AllocError> {
+    /// What is known of a problem's items, by its first options where the watch ends that; the only error is out of memory.
+    pub fn new<W: ReasonWatch>(
+        alloc: Global,
+        problem: &Problem,
+        watch: &mut W,
+    ) -> Result<Neighbours, AllocError> {
         let items = problem.items();
         let mut neighbours = Neighbours {
             owners: empty_sets(alloc, items, problem.primary())?,
             options: empty_lists(alloc, items)?,
             coloured: Bits::empty(alloc, items)?,
         };
-        neighbours.add_options(alloc, problem)?;
+        neighbours.add_options(alloc, problem, watch)?;
         neighbours.leave_out_themselves();
         Ok(neighbours)
     }
 
-    /// Notes the items of all options.
-    fn add_options(&mut self, alloc: Global, problem: &Problem) -> Result<(), AllocError> {
+    /// Notes the items of all options, or of the first ones where the watch ends that.
+    fn add_options<W: ReasonWatch>(
+        &mut self,
+        alloc: Global,
+        problem: &Problem,
+        watch: &mut W,
+    ) -> Result<(), AllocError> {
         let mut primary = Bits::empty(alloc, problem.primary())?;
         for option in 0..problem.options() as u16 {
+            if looks_at(option, watch) {
+                break;
+            }
             collect_primary(problem.primary(), problem.option(option), &mut primary);
             self.add_option(problem, option, &primary)?;
         }

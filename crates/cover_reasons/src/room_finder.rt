@@ -56,7 +56,10 @@ fn search_room<W: ReasonWatch>(
     problem: &Problem,
     watch: &mut W,
 ) -> Result<Option<Room>, AllocError> {
-    let neighbours = Neighbours::new(alloc, problem)?;
+    let neighbours = Neighbours::new(alloc, problem, watch)?;
+    if watch.look() {
+        return Ok(None);
+    }
     let bare = bare_room(alloc, problem, &neighbours)?;
     if bare.is_some() {
         return Ok(bare);

@@ -51,7 +51,7 @@ pub enum Progress {
 #[derive(Drop)]
 pub struct Simplex {
     relaxation: Relaxation,
-    /// The columns of the inverse of the basis.
+    /// The columns of the inverse of the basis, as far as they have been added.
     inverse: Vec<Line>,
     /// What one more of each right side would add to what is missing.
     prices: Line,
@@ -63,17 +63,6 @@ pub struct Simplex {
     next: usize,
     /// How many numbers were changed.
     steps: usize,
-}
-
-/// The inverse of the first basis, in which all is missing.
-fn unit_lines(alloc: Global, count: usize) -> Result<Vec<Line>, AllocError> {
-    let mut lines = Vec::with_capacity(alloc, count)?;
-    for row in 0..count {
-        let mut line = Line::zeros(alloc, count)?;
-        line.put(row, 1.0);
-        lines.push(line)?;
-    }
-    Ok(lines)
 }
 
 /// The first prices: 1 of each row of a primary item.
@@ -100,21 +89,35 @@ fn first_levels(alloc: Global, count: usize) -> Result<Line, AllocError> {
 }
 
 impl Simplex {
-    /// The first basis of a problem's relaxation. The only error is out of memory: it takes 8 bytes for each pair of items, and 2 for each item of an
-    /// option.
+    /// The first basis of a problem's relaxation, without its inverse: `add_line` adds a line of that, once for each of `rows`, before the first
+    /// pivot. The only error is out of memory: it takes 2 bytes for each item of an option, and with its inverse 8 for each pair of items.
     pub fn new(alloc: Global, problem: &Problem) -> Result<Simplex, AllocError> {
         let relaxation = Relaxation::new(alloc, problem)?;
         let rows = relaxation.rows();
         let prices = first_prices(alloc, &relaxation)?;
         Ok(Simplex {
             relaxation,
-            inverse: unit_lines(alloc, rows)?,
+            inverse: Vec::with_capacity(alloc, rows)?,
             prices,
             levels: first_levels(alloc, rows)?,
             column: Line::zeros(alloc, rows)?,
             next: 0,
             steps: 0,
         })
+    }
+
+    /// How many rows there are.
+    pub fn rows(&self) -> usize {
+        self.relaxation.rows()
+    }
+
+    /// Adds the next line of the inverse of the first basis, in which all is missing; the only error is out of memory. (All lines together take
+    /// longer than a thousandth of a second, so whoever adds them can end that.)
+    pub fn add_line(&mut self, alloc: Global) -> Result<(), AllocError> {
+        let mut line = Line::zeros(alloc, self.relaxation.rows())?;
+        line.put(self.inverse.len(), 1.0);
+        self.inverse.push(line)?;
+        Ok(())
     }
 
     /// How many numbers were changed so far, about two in a thousandth of a millionth of a second.
