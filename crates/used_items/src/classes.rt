@@ -4,7 +4,7 @@ ghost use Rattle.std.specs.Prelude.{◌≡◌, ◌<◌, length};
 
 use crate::row::Row;
 use cover_problem::Problem;
-use cover_reasons::ReasonWatch;
+use cover_reasons::{ReasonWatch, looks_at};
 use std::alloc::{AllocError, Global};
 
 /// The class of an item that is primary, or to which some option gives a colour.
@@ -66,14 +66,22 @@ impl Classes {
             steps: 0,
         };
         let mut coloured = Row::zeros(alloc, problem.items())?;
-        classes.list_options(problem, &mut coloured)?;
+        classes.list_options(problem, &mut coloured, watch)?;
         classes.set_classes(alloc, problem, &coloured, most_steps, watch)?;
         Ok(classes)
     }
 
-    /// Lists the options of each item.
-    fn list_options(&mut self, problem: &Problem, coloured: &mut Row) -> Result<(), AllocError> {
+    /// Lists the options of each item, as far as the watch doesn't end that.
+    fn list_options<W: ReasonWatch>(
+        &mut self,
+        problem: &Problem,
+        coloured: &mut Row,
+        watch: &mut W,
+    ) -> Result<(), AllocError> {
         for option in 0..problem.options() as u16 {
+            if looks_at(option, watch) {
+                break;
+            }
             add_option(&mut self.options, coloured, problem, option)?;
         }
         Ok(())

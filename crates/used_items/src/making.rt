@@ -100,8 +100,8 @@ pub fn with_used_items_until<W: ReasonWatch>(
         IfSome found (λ made. IsPromoted problem.now made.room made.problem)) }
 {
     match find_full_room(alloc, problem, watch)? {
-        Some(room) => made_with(alloc, problem, room),
-        None => Ok(None),
+        Some(room) if !watch.look() => made_with(alloc, problem, room),
+        _ => Ok(None),
     }
 }
 

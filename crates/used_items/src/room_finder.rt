@@ -96,7 +96,7 @@ fn add_classes<W: ReasonWatch>(
         let used = add_class(alloc, problem, classes, turn, &mut matching, total)?;
         steps = steps.saturating_add(used);
     }
-    if classes.count() > 1 && steps <= MOST_STEPS {
+    if classes.count() > 1 && steps <= MOST_STEPS && !watch.look() {
         add_class(alloc, problem, classes, 0, &mut matching, total)?;
     }
     Ok(())
