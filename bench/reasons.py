@@ -15,17 +15,17 @@ from __future__ import annotations
 
 import os
 import random
-import resource
 import subprocess
 import sys
 import tempfile
-import time
 from collections.abc import Iterator
-from typing import NamedTuple, Optional
+from typing import Optional
 
 HERE = os.path.dirname(os.path.abspath(__file__))
 sys.path.insert(0, os.path.join(HERE, "..", "trials"))
 from built import SOLVE_CLI, TOP, number_from_one, parser_of, stop, want_program  # noqa: E402
+import measured  # noqa: E402
+from problems import straight  # noqa: E402
 from zarfepoch import generate  # noqa: E402
 
 ZARFEPOCH = [sys.executable, os.path.join(TOP, "scripts", "zarfepoch")]
@@ -41,15 +41,6 @@ FAMILIES = ("dominoes-20x20", "dominoes-30x30", "langford-13", "langford-14", "l
 
 
 # ---- what the folder of instances lacks
-
-def straight(name: str, side: int, length: int) -> None:
-    """Straight pieces of so many cells on a square board, which lacks its first cell."""
-    names = generate.names_of(generate.rectangle(side, side) - {(0, 0)})
-    rows = [[(row, column + k) for k in range(length)] for row in range(side) for column in range(side - length + 1)]
-    columns = [[(row + k, column) for k in range(length)] for row in range(side - length + 1) for column in range(side)]
-    options = [[names[cell] for cell in piece] for piece in rows + columns if (0, 0) not in piece]
-    generate.write(name, "none", list(names.values()), [], options)
-
 
 def tetrominoes(name: str, side: int) -> None:
     """Tetrominoes like a T on a square board."""
@@ -103,7 +94,8 @@ def write_instances(folder: str) -> None:
     for count in (13, 14, 16, 17, 18, 22):
         generate.langford(f"langford-{count}.dlx", "pairs", count)
     tetrominoes("t-tetrominoes-22x22.dlx", 22)
-    straight("straight-trominoes-14x14.dlx", 14, 3)
+    items, pieces = straight(generate.rectangle(14, 14) - {(0, 0)}, 3)
+    generate.write("straight-trominoes-14x14.dlx", "none", items, [], pieces)
     for points in (10, 11):
         generate.triples(f"steiner-{points}.dlx", "triples", points)
     lessons("class-25-in-24.dlx", [[25]], 24)
@@ -117,31 +109,12 @@ def write_instances(folder: str) -> None:
 
 # ---- the table
 
-class Ran(NamedTuple):
-    """What a command wrote, its status, and its processor and wall seconds."""
-    text: str
-    status: int
-    processor: float
-    wall: float
-
-
-def run_once(words: list[str], seconds: int) -> Optional[Ran]:
-    """What came of a command; none where it doesn't end in time."""
-    before, began = resource.getrusage(resource.RUSAGE_CHILDREN), time.monotonic()
-    try:
-        ran = subprocess.run(words, capture_output=True, text=True, timeout=seconds)
-    except subprocess.TimeoutExpired:
-        return None
-    after, wall = resource.getrusage(resource.RUSAGE_CHILDREN), time.monotonic() - began
-    return Ran(ran.stdout, ran.returncode, after.ru_utime + after.ru_stime - before.ru_utime - before.ru_stime, wall)
-
-
-def run(words: list[str], seconds: int, times: int) -> Optional[Ran]:
-    """The same, with the least seconds of several runs."""
-    best: Optional[Ran] = None
+def run(words: list[str], seconds: int, times: int) -> Optional[measured.Ran]:
+    """What came of a command, with the least seconds of several runs; none where it doesn't end in time."""
+    best: Optional[measured.Ran] = None
     for _ in range(times):
-        found = run_once(words, seconds)
-        if found is None:
+        found = measured.run(words, seconds=seconds)
+        if found.status is None:
             return None
         best = best or found
         best = found._replace(processor=min(best.processor, found.processor), wall=min(best.wall, found.wall))

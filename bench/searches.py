@@ -17,7 +17,6 @@ from __future__ import annotations
 import math
 import os
 import random
-import resource
 import shutil
 import subprocess
 import sys
@@ -27,6 +26,7 @@ from typing import Optional
 HERE = os.path.dirname(os.path.abspath(__file__))
 sys.path.insert(0, os.path.join(HERE, "..", "trials"))
 from built import WORKBENCH, number_from_one, parser_of, stop, want_program  # noqa: E402
+from measured import run  # noqa: E402
 from zarfepoch import generate  # noqa: E402
 
 KINDS = ["links", "sets"]
@@ -68,10 +68,8 @@ def uneven_instances(folder: str) -> None:
 
 def told(file: str, kind: str, fuel: int) -> tuple[list[str], float]:
     """What the program writes of a search, in words, and its processor seconds."""
-    before = resource.getrusage(resource.RUSAGE_CHILDREN)
-    text = subprocess.run([WORKBENCH, "search", file, kind, "plain", str(fuel)], capture_output=True, text=True).stdout
-    after = resource.getrusage(resource.RUSAGE_CHILDREN)
-    return text.split(), after.ru_utime + after.ru_stime - before.ru_utime - before.ru_stime
+    ran = run([WORKBENCH, "search", file, kind, "plain", str(fuel)])
+    return ran.text.split(), ran.processor
 
 
 def instructions(file: str, kind: str, fuel: int) -> Optional[int]:

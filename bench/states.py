@@ -32,6 +32,8 @@ HERE = os.path.dirname(os.path.abspath(__file__))
 sys.path.insert(0, os.path.join(HERE, "..", "trials"))
 from built import SOLVE_CLI, WORKBENCH, number_from_one, parser_of, stop, want_program  # noqa: E402
 from encodings_of_peers import formula_of, program_of  # noqa: E402
+from measured import ended, processor_seconds  # noqa: E402
+from problems import straight  # noqa: E402
 from zarfepoch import generate  # noqa: E402
 
 GREATEST = str(2 ** 64 - 1)
@@ -58,15 +60,6 @@ def pigeons(name: str, count: int) -> None:
     generate.write(name, "none", [f"p{pigeon}" for pigeon in range(count)], holes, options)
 
 
-def straight(name: str, side: int) -> None:
-    """Straight pieces of four cells on a square board."""
-    rows = [[(row, column + k) for k in range(4)] for row in range(side) for column in range(side - 3)]
-    columns = [[(row + k, column) for k in range(4)] for row in range(side - 3) for column in range(side)]
-    names = generate.names_of(generate.rectangle(side, side))
-    options = [[names[cell] for cell in piece] for piece in rows + columns]
-    generate.write(name, "none", list(names.values()), [], options)
-
-
 def write_instances(folder: str) -> None:
     """The benchmark's instances, and families in which states repeat."""
     subprocess.run([sys.executable, os.path.join(HERE, "instances.py"), folder], check=True)
@@ -76,7 +69,8 @@ def write_instances(folder: str) -> None:
         generate.dominoes(f"dominoes-{side}x{side}.dlx", "without two opposite corners", cells)
     generate.dominoes("dominoes-13x13.dlx", "an odd number of cells", generate.rectangle(13, 13))
     pigeons("pigeons-12.dlx", 12)
-    straight("straight-14x14.dlx", 14)
+    items, pieces = straight(generate.rectangle(14, 14), 4)
+    generate.write("straight-14x14.dlx", "none", items, [], pieces)
 
 
 def run(words: list[str], seconds: int, lines: Iterable[str] = ()) -> Optional[Found]:
@@ -85,13 +79,12 @@ def run(words: list[str], seconds: int, lines: Iterable[str] = ()) -> Optional[F
         given.writelines(f"{line}\n" for line in lines)
         given.seek(0)
         process = subprocess.Popen([*LIMITED, str(seconds), *words], stdin=given, stdout=out, stderr=subprocess.DEVNULL)
-        _, status, used = os.wait4(process.pid, 0)
-        process.returncode = os.waitstatus_to_exitcode(status)
-        if process.returncode < 0 and used.ru_utime + used.ru_stime > 0.9 * seconds:
+        used = processor_seconds(ended(process))
+        if process.returncode < 0 and used > 0.9 * seconds:
             return None
         out.seek(0)
         told = [WORDS[word] for word in out.read().split() if word in WORDS]
-    return told[0] if told else "no answer", used.ru_utime + used.ru_stime
+    return told[0] if told else "no answer", used
 
 
 def least(words: list[str], times: int, seconds: int, lines: Iterable[str] = ()) -> Optional[Found]:

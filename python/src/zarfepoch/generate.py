@@ -249,8 +249,7 @@ def queens(name: str, note: str, n: int) -> None:
 
 def langford(name: str, note: str, n: int) -> None:
     check_count(3 * n, MAX_ITEMS, "items")
-    options = [[str(d), f"s{k}", f"s{k + d + 1}"] for d in range(1, n + 1) for k in range(1, 2 * n - d)]
-    write(name, note, [str(d) for d in range(1, n + 1)] + [f"s{k}" for k in range(1, 2 * n + 1)], [], options)
+    write(name, note, *puzzles.langford(n))
 
 
 def sudoku(name: str, note: str, rows: list[str]) -> None:
