@@ -88,7 +88,6 @@ pages=$(mktemp -d)
 trap 'rm -rf "$pages"' EXIT
 trap 'exit 1' HUP INT TERM
 python3 "$top/dev/help_pages.py" "$pages"
-python3 "$top/dev/command_pages.py" "$pages"
 {
     "$program" --version
     echo "commit $(commit)"
