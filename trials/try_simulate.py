@@ -1,9 +1,9 @@
 #!/usr/bin/env python3
 """Simulates a search of every example.
 
-    python3 trials/try_simulate.py [SEEDS]
+    python3 trials/try_simulate.py [--short] [SEEDS]
 
-Each file of examples/ is searched by simulated worlds of four nodes, for each seed (20 where no number is given) with searches
+Each file of examples/ is searched by simulated worlds of four nodes, for each seed (20 where no number is given, one with --short) with searches
 of 1, 10 and 1,000 visits, without restarts and with five. Every answer is given to `check`, which has to call it right. A table
 tells, file by file, in how many of the runs an answer was published within 10,000 turns, without the closing phase, and the
 turns and packets that the middle one of these took.
@@ -43,8 +43,10 @@ def measured(file: str, seed: str, fuel: str, restarts: str) -> tuple[int, int, 
 
 def main() -> None:
     parser = parser_of(__doc__)
-    parser.add_argument("seeds", nargs="?", metavar="SEEDS", type=number_from_one, default=20, help="how many seeds are tried, from 1 (default 20)")
-    seeds = parser.parse_args().seeds
+    parser.add_argument("seeds", nargs="?", metavar="SEEDS", type=number_from_one, help="how many seeds are tried, from 1 (default 20; 1 with --short)")
+    parser.add_argument("--short", action="store_true", help="fewer seeds")
+    given = parser.parse_args()
+    seeds = given.seeds or (1 if given.short else 20)
     want_program(SOLVE_CLI)
     want_program(WORKBENCH, "workbench")
     plans = [(str(seed), fuel, restarts) for seed in range(1, seeds + 1)

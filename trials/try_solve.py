@@ -1,7 +1,7 @@
 #!/usr/bin/env python3
 """Runs `solve` on two small problems and on every example, or on the files that are named.
 
-    python3 trials/try_solve.py [--times N] [--nodes N] [--workers N] [--fuel N] [--limit SECONDS] [--audit] [FILE ..]
+    python3 trials/try_solve.py [--short] [--times N] [--nodes N] [--workers N] [--fuel N] [--limit SECONDS] [--audit] [FILE ..]
 
 Each problem is solved so many times by nodes with threads of their own. Every answer is given to `check`, which has to call it
 right, and of the two small problems the answer's text is known. With no turns at all there has to be no answer. A table tells,
@@ -46,14 +46,18 @@ Seen = tuple[float, bool, bool]
 
 def words() -> argparse.Namespace:
     parser = parser_of(__doc__)
-    parser.add_argument("--times", type=number_from_one, default=20, help="how often each problem is solved (default 20)")
+    parser.add_argument("--short", action="store_true", help="once, and with --audit")
+    parser.add_argument("--times", type=number_from_one, help="how often each problem is solved (default 20; 1 with --short)")
     parser.add_argument("--nodes", default="4", help="how many nodes there are (default 4)")
     parser.add_argument("--workers", default="2", help="how many workers a node has (default 2)")
     parser.add_argument("--fuel", default="1000", help="how many prefixes a search may visit at first (default 1000)")
     parser.add_argument("--limit", type=float, default=120, help="after how many seconds a run is given up (default 120)")
     parser.add_argument("--audit", action="store_true", help="audit each run")
     parser.add_argument("files", nargs="*", metavar="FILE", help="the files, in place of the small problems and all of examples/")
-    return parser.parse_args()
+    given = parser.parse_args()
+    given.times = given.times or (1 if given.short else 20)
+    given.audit = given.audit or given.short
+    return given
 
 
 def output(words: list[str], limit: float) -> Optional[subprocess.CompletedProcess[str]]:
