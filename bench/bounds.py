@@ -39,11 +39,10 @@ sys.path.insert(0, os.path.join(HERE, "..", "trials"))
 import audits  # noqa: E402
 import books  # noqa: E402
 from built import SOLVE_CLI, WORKBENCH, parser_of, stop, want_program  # noqa: E402
-from instances import torus_queens  # noqa: E402
+from instances import NOTE, torus_queens  # noqa: E402
 from measured import ended  # noqa: E402
-from problems import write_primary  # noqa: E402
+from problems import put, write_primary  # noqa: E402
 from solve import behind  # noqa: E402
-from zarfepoch import generate  # noqa: E402
 
 # how often each audit is measured
 AUDITS = 5
@@ -64,8 +63,7 @@ def peak(words: list[str]) -> int:
 
 def audited(folder: str, rows: int, nodes: int) -> tuple[int, float]:
     """Entries and seconds of the audit that takes the least for an entry, of several searches of queens on a torus."""
-    generate.HERE = folder
-    torus_queens("torus.dlx", rows)
+    put(folder, "torus", NOTE, torus_queens(rows))
     found = []
     for _ in range(AUDITS):
         (_, entries, time, verdict), _ = audits.run(os.path.join(folder, "torus.dlx"), nodes, "time")
@@ -91,8 +89,7 @@ def idle_entries(_: str) -> float:
 
 
 def only_worker(folder: str) -> float:
-    generate.HERE = folder
-    torus_queens("torus.dlx", 15)
+    put(folder, "torus", NOTE, torus_queens(15))
     _, _, answered, _, of_books = books.run(os.path.join(folder, "torus.dlx"), 1, 1)
     if not answered:
         sys.exit("a run of one worker gave no answer")

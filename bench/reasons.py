@@ -25,8 +25,9 @@ HERE = os.path.dirname(os.path.abspath(__file__))
 sys.path.insert(0, os.path.join(HERE, "..", "trials"))
 from built import SOLVE_CLI, TOP, number_from_one, parser_of, stop, want_program  # noqa: E402
 import measured  # noqa: E402
-from problems import straight  # noqa: E402
+from problems import put, straight  # noqa: E402
 from zarfepoch import generate  # noqa: E402
+from zarfepoch.puzzle_texts import Puzzle  # noqa: E402
 
 ZARFEPOCH = [sys.executable, os.path.join(TOP, "scripts", "zarfepoch")]
 EXAMPLES = ("langford-5", "mutilated-chessboard", "tetrominoes-4x5")
@@ -42,23 +43,23 @@ FAMILIES = ("dominoes-20x20", "dominoes-30x30", "langford-13", "langford-14", "l
 
 # ---- what the folder of instances lacks
 
-def tetrominoes(name: str, side: int) -> None:
+def tetrominoes(side: int) -> Puzzle:
     """Tetrominoes like a T on a square board."""
     cells = generate.rectangle(side, side)
     options = [option[1:] for option in generate.placements({"T": generate.TETROMINOES["T"]}, cells)]
-    generate.write(name, "none", list(generate.names_of(cells).values()), [], options)
+    return Puzzle(list(generate.names_of(cells).values()), [], options)
 
 
-def lessons(name: str, hours: list[list[int]], periods: int) -> None:
+def lessons(hours: list[list[int]], periods: int) -> Puzzle:
     """A timetable: each row has a class's hours with each teacher."""
     names = {f"{who}-{teacher}-{hour}": (f"t{teacher}", f"c{who}")
              for who, row in enumerate(hours) for teacher, count in enumerate(row) for hour in range(count)}
     options = [[lesson, *(f"{one}-{at}" for one in both)] for lesson, both in names.items() for at in range(periods)]
     busy = sorted({word for option in options for word in option[1:]})
-    generate.write(name, "none", list(names), busy, options)
+    return Puzzle(list(names), busy, options)
 
 
-def quasigroup(name: str, order: int, filled: int, seed: int) -> None:
+def quasigroup(order: int, filled: int, seed: int) -> Puzzle:
     """A square of so many rows and numbers in which so many cells are filled one by one, by what no row and column has; each row and
     column is to have each number."""
     draw = random.Random(seed)
@@ -70,10 +71,10 @@ def quasigroup(name: str, order: int, filled: int, seed: int) -> None:
         if open_values:
             free.difference_update(parts[r, c, draw.choice(open_values)])
     options = [list(part) for part in parts.values() if free.issuperset(part)]
-    generate.write(name, f"{len(free)} items are free", sorted(free), [], options)
+    return Puzzle(sorted(free), [], options)
 
 
-def limits(name: str, size: int) -> None:
+def limits(size: int) -> Puzzle:
     """The most items and options that a file may have: options of so many items, some of which make up a cover."""
     draw = random.Random(size)
     items = [f"i{k}" for k in range(1000)]
@@ -81,30 +82,30 @@ def limits(name: str, size: int) -> None:
     options = [order[place:place + size] for place in range(0, len(items), size)]
     options += [draw.sample(items, size) for _ in range(20_000 - len(options))]
     draw.shuffle(options)
-    generate.write(name, "a cover, among many options", items, [], options)
+    return Puzzle(items, [], options)
 
 
 def write_instances(folder: str) -> None:
     """All instances."""
     subprocess.run([sys.executable, os.path.join(HERE, "instances.py"), folder], check=True)
-    generate.HERE = folder
     for side in (20, 30):
         cells = generate.rectangle(side, side) - {(0, 0), (side - 1, side - 1)}
-        generate.dominoes(f"dominoes-{side}x{side}.dlx", "without two opposite corners", cells)
+        put(folder, f"dominoes-{side}x{side}", "without two opposite corners", generate.dominoes(cells))
     for count in (13, 14, 16, 17, 18, 22):
-        generate.langford(f"langford-{count}.dlx", "pairs", count)
-    tetrominoes("t-tetrominoes-22x22.dlx", 22)
+        put(folder, f"langford-{count}", "pairs", generate.langford(count))
+    put(folder, "t-tetrominoes-22x22", "none", tetrominoes(22))
     items, pieces = straight(generate.rectangle(14, 14) - {(0, 0)}, 3)
-    generate.write("straight-trominoes-14x14.dlx", "none", items, [], pieces)
+    put(folder, "straight-trominoes-14x14", "none", Puzzle(items, [], pieces))
     for points in (10, 11):
-        generate.triples(f"steiner-{points}.dlx", "triples", points)
-    lessons("class-25-in-24.dlx", [[25]], 24)
+        put(folder, f"steiner-{points}", "triples", generate.triples(points))
+    put(folder, "class-25-in-24", "none", lessons([[25]], 24))
     # (the first teacher has 26 hours)
-    lessons("school-of-8.dlx", [[5, 2, 2, 3, 3, 3, 3, 3], *[[3] * 8] * 7], 25)
+    put(folder, "school-of-8", "none", lessons([[5, 2, 2, 3, 3, 3, 3, 3], *[[3] * 8] * 7], 25))
     for order, filled, seed in QUASIGROUPS:
-        quasigroup(f"quasigroup-{order}-{filled}-{seed}.dlx", order, filled, seed)
+        square = quasigroup(order, filled, seed)
+        put(folder, f"quasigroup-{order}-{filled}-{seed}", f"{len(square.primary)} items are free", square)
     for size in LIMITS:
-        limits(f"limits-{size}.dlx", size)
+        put(folder, f"limits-{size}", "a cover, among many options", limits(size))
 
 
 # ---- the table

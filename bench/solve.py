@@ -28,8 +28,10 @@ import time
 HERE = os.path.dirname(os.path.abspath(__file__))
 sys.path.insert(0, os.path.join(HERE, "..", "trials"))
 from built import is_right, number_from_one, parser_of, SOLVE_CLI, stop, want_program  # noqa: E402
+from problems import put  # noqa: E402
 from states import write_instances  # noqa: E402
-from zarfepoch import generate, puzzles  # noqa: E402
+from zarfepoch import puzzles  # noqa: E402
+from zarfepoch.puzzle_texts import Puzzle  # noqa: E402
 
 NAMES = ["langford-13", "langford-13-long", "torus-queens-15", "skewed", "skewed-long", "diamond", "pentominoes-3x20", "sudoku-hard", "mutilated-chessboard"]
 # nodes, workers
@@ -51,9 +53,7 @@ def behind(folder: str, name: str, counts: list[int], skewed: bool = False) -> N
     ways = [[f"x{k}", f"y{k}.{way}"] for k, count in enumerate(counts) for way in range(count)]
     if skewed:
         choices, ways = SKEWED + choices, SKEWED_WAYS + ways
-    generate.HERE = folder
-    generate.write(f"{name}.dlx", f"choices that make the work {math.prod(counts)} times as much", choices + NUMBERS_AND_PLACES,
-                   marks, ways + PAIRS)
+    put(folder, name, f"choices that make the work {math.prod(counts)} times as much", Puzzle(choices + NUMBERS_AND_PLACES, marks, ways + PAIRS))
 
 
 def timed(words: list[str]) -> tuple[str, float]:
