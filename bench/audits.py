@@ -21,8 +21,9 @@ import tempfile
 HERE = os.path.dirname(os.path.abspath(__file__))
 sys.path.insert(0, os.path.join(HERE, "..", "trials"))
 from built import parser_of, want_program, WORKBENCH  # noqa: E402
-from instances import torus_queens  # noqa: E402
-from zarfepoch import generate  # noqa: E402
+from instances import NOTE, torus_queens  # noqa: E402
+from measured import ended  # noqa: E402
+from problems import put  # noqa: E402
 
 ROWS = [10, 12, 14]
 NODES = [4, 16]
@@ -32,9 +33,7 @@ def run(file: str, nodes: int, what: str) -> tuple[list[str], float]:
     """What a run prints, and its greatest memory in megabytes."""
     process = subprocess.Popen([WORKBENCH, "audits", file, str(nodes), "1", "1", "1", "100000000", what], stdout=subprocess.PIPE, text=True)
     text = process.stdout.read() if process.stdout else ""
-    _, status, usage = os.wait4(process.pid, 0)
-    process.returncode = os.waitstatus_to_exitcode(status)
-    return text.split(maxsplit=3), usage.ru_maxrss / 1024
+    return text.split(maxsplit=3), ended(process).ru_maxrss / 1024
 
 
 def main() -> None:
@@ -44,9 +43,9 @@ def main() -> None:
     print("|---|---|---|---|---|")
     is_clean = True
     with tempfile.TemporaryDirectory() as folder:
-        generate.HERE, file = folder, os.path.join(folder, "torus.dlx")
+        file = os.path.join(folder, "torus.dlx")
         for rows in ROWS:
-            torus_queens("torus.dlx", rows)
+            put(folder, "torus", NOTE, torus_queens(rows))
             for nodes in NODES:
                 _, plain = run(file, nodes, "nothing")
                 (books, entries, time, found), audited = run(file, nodes, "time")

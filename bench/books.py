@@ -19,7 +19,6 @@ from __future__ import annotations
 
 import math
 import os
-import resource
 import subprocess
 import sys
 import tempfile
@@ -28,6 +27,7 @@ import time
 HERE = os.path.dirname(os.path.abspath(__file__))
 sys.path.insert(0, os.path.join(HERE, "..", "trials"))
 from built import parser_of, stop, want_command, want_program, WORKBENCH  # noqa: E402
+from measured import spent  # noqa: E402
 from solve import behind  # noqa: E402
 
 NAMES = ["langford-13", "skewed", "torus-queens-15", "torus-queens-16"]
@@ -65,14 +65,13 @@ def watch(process: subprocess.Popen[str]) -> None:
 def run(file: str, nodes: int, workers: int, is_watched: bool = False) -> Ran:
     """The seconds of a run, those of processors, whether an answer was published, what each site tells of its end (losses,
     turns), and the entries, searches, lost visits and names of each book."""
-    start, before = time.monotonic(), resource.getrusage(resource.RUSAGE_CHILDREN)
+    start, before = time.monotonic(), spent()
     words = [WORKBENCH, "tally", file, str(nodes), str(workers), "1", "1000", "1000000"]
     with subprocess.Popen(words, stdout=subprocess.PIPE, text=True) as process:
         if is_watched:
             watch(process)
         lines = process.communicate()[0].splitlines()
-    seconds, after = time.monotonic() - start, resource.getrusage(resource.RUSAGE_CHILDREN)
-    processors = after.ru_utime + after.ru_stime - before.ru_utime - before.ru_stime
+    seconds, processors = time.monotonic() - start, spent() - before
     sites = [tuple(map(int, line.split()[1:])) for line in lines[1:2 + nodes]]
     books = [tuple(map(int, line.split())) for line in lines[2 + nodes:]]
     return seconds, processors, lines[0] == "true", sites, books

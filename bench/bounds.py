@@ -38,11 +38,11 @@ HERE = os.path.dirname(os.path.abspath(__file__))
 sys.path.insert(0, os.path.join(HERE, "..", "trials"))
 import audits  # noqa: E402
 import books  # noqa: E402
-import finding  # noqa: E402
 from built import SOLVE_CLI, WORKBENCH, parser_of, stop, want_program  # noqa: E402
-from instances import torus_queens  # noqa: E402
+from instances import NOTE, torus_queens  # noqa: E402
+from measured import ended  # noqa: E402
+from problems import put, write_primary  # noqa: E402
 from solve import behind  # noqa: E402
-from zarfepoch import generate  # noqa: E402
 
 # how often each audit is measured
 AUDITS = 5
@@ -55,17 +55,15 @@ FEW, MANY = 100_000, 1_000_000
 def peak(words: list[str]) -> int:
     """The greatest memory of a program, in bytes."""
     with subprocess.Popen(words, stdout=subprocess.DEVNULL) as process:
-        _, status, usage = os.wait4(process.pid, 0)
-        process.returncode = os.waitstatus_to_exitcode(status)
+        used = ended(process)
     if process.returncode:
         sys.exit(f"{' '.join(words)} failed")
-    return int(usage.ru_maxrss) * 1024
+    return used.ru_maxrss * 1024
 
 
 def audited(folder: str, rows: int, nodes: int) -> tuple[int, float]:
     """Entries and seconds of the audit that takes the least for an entry, of several searches of queens on a torus."""
-    generate.HERE = folder
-    torus_queens("torus.dlx", rows)
+    put(folder, "torus", NOTE, torus_queens(rows))
     found = []
     for _ in range(AUDITS):
         (_, entries, time, verdict), _ = audits.run(os.path.join(folder, "torus.dlx"), nodes, "time")
@@ -91,8 +89,7 @@ def idle_entries(_: str) -> float:
 
 
 def only_worker(folder: str) -> float:
-    generate.HERE = folder
-    torus_queens("torus.dlx", 15)
+    put(folder, "torus", NOTE, torus_queens(15))
     _, _, answered, _, of_books = books.run(os.path.join(folder, "torus.dlx"), 1, 1)
     if not answered:
         sys.exit("a run of one worker gave no answer")
@@ -113,7 +110,7 @@ def equal_parts(folder: str) -> float:
 def drawn(path: str, items: int, options: int, length: int) -> None:
     """Options of so many items each, drawn at random."""
     draw = random.Random(items + length)
-    finding.write(path, [[f"i{item}" for item in sorted(draw.sample(range(items), length))] for _ in range(options)])
+    write_primary(path, [[f"i{item}" for item in sorted(draw.sample(range(items), length))] for _ in range(options)])
 
 
 def late_seconds(folder: str) -> float:

@@ -15,15 +15,14 @@ from __future__ import annotations
 
 import gzip
 import os
-import resource
-import subprocess
 import sys
 import tempfile
-from typing import NamedTuple, Optional
+from typing import Optional
 
 HERE = os.path.dirname(os.path.abspath(__file__))
 sys.path.insert(0, os.path.join(HERE, "..", "trials"))
 from built import number_from_one, parser_of, SOLVE_CLI, stop, want_program  # noqa: E402
+from measured import run  # noqa: E402
 from states import write_instances  # noqa: E402
 
 NAMES = ("langford-13", "pigeons-12", "torus-queens-14", "torus-queens-15", "torus-queens-16", "triples-19", "triples-22", "word-squares-4")
@@ -32,34 +31,16 @@ CHECK = [sys.executable, os.path.join(HERE, "..", "scripts", "zarfepoch"), "chec
 SECONDS = 60
 
 
-class Ended(NamedTuple):
-    """How a process ended: its exit status, and its seconds of user and system time."""
-
-    status: int
-    seconds: float
-
-
-def ended(words: list[str]) -> Optional[Ended]:
-    """How a process ended; none where it took longer than a minute."""
-    before = resource.getrusage(resource.RUSAGE_CHILDREN)
-    try:
-        run = subprocess.run(words, stdout=subprocess.DEVNULL, stderr=subprocess.DEVNULL, timeout=SECONDS, check=False)
-    except subprocess.TimeoutExpired:
-        return None
-    after = resource.getrusage(resource.RUSAGE_CHILDREN)
-    return Ended(run.returncode, after.ru_utime + after.ru_stime - before.ru_utime - before.ru_stime)
-
-
 def least(words: list[str], status: int, times: int) -> str:
-    """The least time of a process that has to end with this status, as text."""
+    """The least time of a process that has to end with this status, as text; a dash where it took longer than a minute."""
     runs = []
     for _ in range(times):
-        run = ended(words)
-        if run is None:
+        ran = run(words, seconds=SECONDS)
+        if ran.status is None:
             return "-"
-        if run.status != status:
-            raise ValueError(f"{' '.join(words)}: status {run.status}")
-        runs.append(run.seconds)
+        if ran.status != status:
+            raise ValueError(f"{' '.join(words)}: status {ran.status}")
+        runs.append(ran.processor)
     return f"{min(runs):.2f}"
 
 

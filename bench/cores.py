@@ -6,8 +6,8 @@
 `cycle` is a steal from the first packet to the last: eight events and four packets, a thousand and ten thousand times over;
 each leaves one guest more in the node's table. `share-1`, `share-2` and `share-8` are a Steal and the Give of so many children
 to a node that begins, and a redo of each child. The others are packets that are delivered, a million times each. Beside each, a
-plain loop only copies the same packets. Both run by turns, three times each, and the least user time of the whole process
-counts.
+plain loop only copies the same packets. Both run by turns, three times each, and the least processor time of the whole
+process counts, user and system.
 
 It wants the program: (cd crates/workbench && rt run) builds it. The exit status is 0, or 2 for a mistake on the command line or
 where there is no program.
@@ -15,13 +15,12 @@ where there is no program.
 from __future__ import annotations
 
 import os
-import resource
-import subprocess
 import sys
 
 HERE = os.path.dirname(os.path.abspath(__file__))
 sys.path.insert(0, os.path.join(HERE, "..", "trials"))
 from built import parser_of, want_program, WORKBENCH  # noqa: E402
+from measured import run  # noqa: E402
 
 # what happens, how many events it is, and how many times
 ROWS = [("cycle", 8, 1_000), ("cycle", 8, 10_000)] + [
@@ -33,9 +32,11 @@ ROWS = [("cycle", 8, 1_000), ("cycle", 8, 10_000)] + [
 
 
 def seconds(words: list[str]) -> float:
-    before = resource.getrusage(resource.RUSAGE_CHILDREN).ru_utime
-    subprocess.run([WORKBENCH, *words], check=True)
-    return resource.getrusage(resource.RUSAGE_CHILDREN).ru_utime - before
+    """The processor seconds of the program, which has to end well."""
+    ran = run([WORKBENCH, *words])
+    if ran.status:
+        sys.exit(f"the program failed: {words}")
+    return ran.processor
 
 
 def main() -> None:

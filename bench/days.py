@@ -27,6 +27,8 @@ from typing import NamedTuple
 HERE = os.path.dirname(os.path.abspath(__file__))
 sys.path.insert(0, os.path.join(HERE, "..", "trials"))
 from built import SOLVE_CLI, number_from_one, parser_of, stop, want_program  # noqa: E402
+from problems import write  # noqa: E402
+from zarfepoch import puzzles  # noqa: E402
 
 # the entries of a book of the default, and of the books of these runs
 DEFAULT, ENTRIES = 1_000_000, 200_000
@@ -42,16 +44,6 @@ class Look(NamedTuple):
     wakings: int
     entries: int
     memory: float
-
-
-def write(path: str, pairs: int) -> None:
-    """Writes the Langford pairs of so many numbers."""
-    numbers, places = [str(k) for k in range(1, pairs + 1)], [f"s{k}" for k in range(1, 2 * pairs + 1)]
-    with open(path, "w", encoding="ascii") as file:
-        print(*numbers, *places, file=file)
-        for d in range(1, pairs + 1):
-            for place in range(1, 2 * pairs - d):
-                print(d, f"s{place}", f"s{place + d + 1}", file=file)
 
 
 def datagrams() -> int:
@@ -133,7 +125,8 @@ def main() -> None:
     print(f"| {' | '.join(HEAD)} |\n|{'---|' * len(HEAD)}", flush=True)
     with tempfile.TemporaryDirectory() as folder:
         file = os.path.join(folder, "langford.dlx")
-        write(file, given.pairs)
+        items, _, options = puzzles.langford(given.pairs)
+        write(file, items, options)
         for sites in chosen:
             print(row(sites, *looks(file, sites, given.seconds, folder)), flush=True)
 

@@ -25,9 +25,11 @@ def read(file: str) -> Problem:
     with open(file, encoding="ascii") as opened:
         lines = [line.split() for line in opened if line.strip() and not line.lstrip().startswith("|")]
     names = lines[0]
-    bar = names.index("|") if "|" in names else len(names)
+    # (a word that begins with the bar is the separator; a name may follow in it)
+    bar = next((place for place, word in enumerate(names) if word.startswith("|")), len(names))
+    behind = " ".join(names[bar:])[1:].split()
     options = [[(name, colour) for name, _, colour in (word.partition(":") for word in line)] for line in lines[1:]]
-    return Problem(names[:bar], names[bar + 1:], options)
+    return Problem(names[:bar], behind, options)
 
 
 def program_of(file: str) -> Iterator[str]:

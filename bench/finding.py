@@ -24,19 +24,12 @@ from typing import Optional
 
 HERE = os.path.dirname(os.path.abspath(__file__))
 sys.path.insert(0, os.path.join(HERE, "..", "trials"))
-from built import SOLVE_CLI, number_from_one, parser_of, want_program  # noqa: E402
+from built import SOLVE_CLI, is_right, number_from_one, parser_of, want_program  # noqa: E402
+from problems import write_primary  # noqa: E402
 
 ORDER, EMPTY = 30, 325
 CLASSES, PERIODS, TEACHERS = 5, 30, 6
 COMMANDS = [["alone"], *(["solve", "--nodes", str(nodes), "--workers", str(workers)] for nodes, workers in ((1, 4), (4, 1), (4, 2), (16, 1)))]
-
-
-def write(path: str, options: list[list[str]]) -> None:
-    """Writes a problem all of whose items are primary."""
-    with open(path, "w", encoding="ascii") as file:
-        print(*sorted({name for option in options for name in option}), file=file)
-        for option in options:
-            print(*option, file=file)
 
 
 def quasigroup(path: str, draw: random.Random) -> None:
@@ -51,7 +44,7 @@ def quasigroup(path: str, draw: random.Random) -> None:
     for r, c in empty:
         of_row[r].add(square[r, c])
         of_column[c].add(square[r, c])
-    write(path, [[f"x{r}-{c}", f"r{r}-{v}", f"c{c}-{v}"] for r, c in sorted(empty) for v in sorted(of_row[r] & of_column[c])])
+    write_primary(path, [[f"x{r}-{c}", f"r{r}-{v}", f"c{c}-{v}"] for r, c in sorted(empty) for v in sorted(of_row[r] & of_column[c])])
 
 
 def turn_square(square: dict[tuple[int, int], int], draw: random.Random) -> None:
@@ -66,13 +59,13 @@ def turn_square(square: dict[tuple[int, int], int], draw: random.Random) -> None
             return
 
 
-def timetable(path: str, draw: random.Random) -> None:
+def timetable(path: str, draw: random.Random, classes: int = CLASSES, teachers: int = TEACHERS) -> None:
     """Lessons of classes and teachers, each at one of the periods: drawn from a table in which no class and no teacher has two at a time."""
     given: dict[tuple[int, int], int] = {}
     for _ in range(PERIODS):
-        for who, teacher in enumerate(draw.sample(range(TEACHERS), CLASSES)):
+        for who, teacher in enumerate(draw.sample(range(teachers), classes)):
             given[who, teacher] = given.get((who, teacher), 0) + 1
-    away = {(teacher, period) for period in range(PERIODS) for teacher in range(TEACHERS)}
+    away = {(teacher, period) for period in range(PERIODS) for teacher in range(teachers)}
     options = []
     for (who, teacher), hours in sorted(given.items()):
         for hour in range(hours):
@@ -81,8 +74,8 @@ def timetable(path: str, draw: random.Random) -> None:
                 options.append([f"l{who}-{teacher}-{hour}", f"c{who}-{period}", f"t{teacher}-{period}"])
                 away.discard((teacher, period))
     # (a teacher may be free)
-    free = [[f"t{teacher}-{period}"] for period in range(PERIODS) for teacher in range(TEACHERS) if (teacher, period) not in away]
-    write(path, options + free)
+    free = [[f"t{teacher}-{period}"] for period in range(PERIODS) for teacher in range(teachers) if (teacher, period) not in away]
+    write_primary(path, options + free)
 
 
 KINDS: dict[str, Callable[[str, random.Random], None]] = {"quasigroup": quasigroup, "timetable": timetable}
@@ -96,8 +89,7 @@ def found(file: str, words: list[str], seconds: int, seed: int) -> Optional[floa
     took = time.monotonic() - begun
     if answer == "no answer\n":
         return None
-    told = subprocess.run([SOLVE_CLI, "check", file, "-"], input=answer, capture_output=True, text=True).stdout
-    if told != "right\n" or not answer.startswith("cover"):
+    if not answer.startswith("cover") or not is_right(file, answer):
         sys.exit(f"a wrong answer: {' '.join(words)}, seed {seed}")
     return took
 

@@ -26,11 +26,11 @@ import time
 from collections.abc import Callable
 
 from encodings_of_peers import read
-from implied import write
-from learning import timed
+from measured import run
+from problems import write
 
 HERE = os.path.dirname(os.path.abspath(__file__))
-sys.path.insert(0, os.path.join(HERE, "..", "scripts"))
+sys.path.insert(0, os.path.join(HERE, "..", "trials"))
 from built import SOLVE_CLI, TOP, number_from_one, parser_of, want_program  # noqa: E402
 
 # classes, teachers and periods of `missed`, and the part of the other periods in which a teacher can be had, too
@@ -162,16 +162,16 @@ def cells_of(file: str, seconds: int) -> list[str]:
     with open(file, encoding="ascii") as lines:
         items = len(lines.readline().replace("|", " ").split())
         options = sum(1 for _ in lines)
-    written, took = timed([SOLVE_CLI, "why", file], b"", seconds)
+    ran = run([SOLVE_CLI, "why", file], seconds=seconds)
     cells = [f"{items:,}", f"{options:,}"]
-    if not written.startswith("none\n"):
+    if not ran.text.startswith("none\n"):
         return [*cells, "-", highs(file, seconds), "-", "-", "-"]
-    checked = subprocess.run([sys.executable, os.path.join(TOP, "scripts", "zarfepoch"), "check-reason", file, "-"], input=written, capture_output=True, text=True)
+    checked = subprocess.run([sys.executable, os.path.join(TOP, "scripts", "zarfepoch"), "check-reason", file, "-"], input=ran.text, capture_output=True, text=True)
     if checked.returncode:
         sys.exit(f"{file}: {checked.stdout}")
-    words = [line.split() for line in written.splitlines()]
+    words = [line.split() for line in ran.text.splitlines()]
     needs, rooms = ([int(line[1]) for line in words if line[0] == kind] for kind in ("need", "room"))
-    return [*cells, f"{took:.2f}", highs(file, seconds), f"{sum(needs):,}", f"{sum(rooms):,}", f"{max([*needs, *rooms, 0]):,}"]
+    return [*cells, f"{ran.processor:.2f}", highs(file, seconds), f"{sum(needs):,}", f"{sum(rooms):,}", f"{max([*needs, *rooms, 0]):,}"]
 
 
 def main() -> int:

@@ -20,31 +20,22 @@ import itertools
 import os
 import random
 import shutil
-import subprocess
 import sys
 import tempfile
 import time
 from collections.abc import Callable
 from typing import Optional
 
-import finding
 from encodings_of_peers import read
-from learning import cadical, clasp, timed, Told
+from learning import cadical, clasp, Told
+from measured import found_cover, run
+from problems import write
 
 HERE = os.path.dirname(os.path.abspath(__file__))
 sys.path.insert(0, os.path.join(HERE, "..", "trials"))
 from built import SOLVE_CLI, number_from_one, parser_of, want_program  # noqa: E402
 
 POINTS, MODULUS, BLOCK, EXAMS, SLOTS, CLIQUE, LINES = 13, 25, 4, 30, 9, 10, 13
-
-
-def write(path: str, primary: list[str], options: list[list[str]]) -> None:
-    """Writes a problem with these primary items; the others that options name are secondary."""
-    secondary = sorted({name for option in options for name in option}.difference(primary))
-    with open(path, "w", encoding="ascii") as file:
-        print(*primary, *(["|", *secondary] if secondary else []), file=file)
-        for option in options:
-            print(*option, file=file)
 
 
 def write_school(path: str, lessons: list[tuple[int, int]], periods: int) -> None:
@@ -122,13 +113,8 @@ KINDS: dict[str, tuple[Callable[[str, random.Random], None], bool]] = {
 
 def asked(words: list[str], file: str, seconds: int) -> Told:
     """Whether a command of ours finds a cover, and its seconds."""
-    written, took = timed([SOLVE_CLI, words[0], file, *words[1:]], b"", seconds + 5)
-    if written.startswith("cover"):
-        told = subprocess.run([SOLVE_CLI, "check", file, "-"], input=written, capture_output=True, text=True).stdout
-        if told != "right\n":
-            sys.exit(f"a wrong cover by {words[0]}")
-        return True, took
-    return (False if written.startswith("none\n") else None), took
+    ran = run([SOLVE_CLI, words[0], file, *words[1:]], seconds=seconds + 5)
+    return found_cover(file, ran.text, f" by {words[0]}"), ran.processor
 
 
 def highs(file: str, seconds: int) -> Told:

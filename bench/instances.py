@@ -11,13 +11,18 @@ import itertools
 import os
 import random
 import sys
+from collections.abc import Iterator
 
 HERE = os.path.dirname(os.path.abspath(__file__))
 sys.path.insert(0, os.path.join(HERE, "..", "trials"))
 from built import parser_of, stop  # noqa: E402
-from zarfepoch.generate import PENTOMINOES, langford, orientations, rectangle, shape  # noqa: E402
+from problems import put  # noqa: E402
 from zarfepoch import generate  # noqa: E402
+from zarfepoch.generate import PENTOMINOES, orientations, rectangle, shape  # noqa: E402
+from zarfepoch.puzzle_texts import Puzzle  # noqa: E402
 
+# what the first comment of most instances says
+NOTE = "an instance of the benchmark"
 
 # 479 words of four letters
 WORDS = """
@@ -44,11 +49,7 @@ what when whom wide wife wild will wind wine wing wire wise wish with wood word 
 """
 
 
-def write(name: str, primary: list[str], secondary: list[str], options: list[list[str]]) -> None:
-    generate.write(name, "an instance of the benchmark", primary, secondary, options)
-
-
-def shuffled(name: str, cells: set[tuple[int, int]], seed: int) -> None:
+def shuffled(cells: set[tuple[int, int]], seed: int) -> Puzzle:
     """The twelve pentominoes on these cells, with items and options in a random order."""
     draw = random.Random(seed)
     items = list(PENTOMINOES) + [f"{r}-{c}" for r, c in sorted(cells)]
@@ -61,7 +62,7 @@ def shuffled(name: str, cells: set[tuple[int, int]], seed: int) -> None:
                     options.append([piece] + [f"{r}-{c}" for r, c in placed])
     draw.shuffle(items)
     draw.shuffle(options)
-    write(name, items, [], options)
+    return Puzzle(items, [], options)
 
 
 def diamond() -> set[tuple[int, int]]:
@@ -69,27 +70,27 @@ def diamond() -> set[tuple[int, int]]:
     return {(r, c) for r in range(10) for c in range(10) if abs(2 * r - 9) + abs(2 * c - 9) <= 10}
 
 
-def torus_queens(name: str, n: int, kinds_primary: int = 2) -> None:
+def torus_queens(n: int, kinds_primary: int = 2) -> Puzzle:
     """Queens that attack nobody on a board whose edges meet. Rows and columns are primary, or diagonals too: n queens use each of them."""
     options = [[f"r{r}", f"c{c}", f"a{(r + c) % n}", f"b{(r - c) % n}"] for r in range(n) for c in range(n)]
     primary, secondary = ([f"{kind}{k}" for kind in some for k in range(n)] for some in ("rcab"[:kinds_primary], "rcab"[kinds_primary:]))
-    write(name, primary, secondary, options)
+    return Puzzle(primary, secondary, options)
 
 
-def crowd(name: str, choices: int) -> None:
+def crowd(choices: int) -> Puzzle:
     """Two hundred long options behind one item, at the end of each way through some choices between two options: all of
     them take the item that each option of the last primary item wants."""
     tails = [f"t{k}" for k in range(990 - choices)]
     options = [[f"c{k}"] for k in range(choices) for _ in "yn"]
     options += [["many"] + tails for _ in range(200)] + [["last", tails[0]] for _ in range(200)]
-    write(name, [f"c{k}" for k in range(choices)] + ["many", "last"], tails, options)
+    return Puzzle([f"c{k}" for k in range(choices)] + ["many", "last"], tails, options)
 
 
-def scattered(name: str, items: int, size: int, count: int, seed: int) -> None:
+def scattered(items: int, size: int, count: int, seed: int) -> Puzzle:
     """Options of this size, drawn at random."""
     draw = random.Random(seed)
     names = [f"i{k}" for k in range(items)]
-    write(name, names, [], [sorted(draw.sample(names, size), key=names.index) for _ in range(count)])
+    return Puzzle(names, [], [sorted(draw.sample(names, size), key=names.index) for _ in range(count)])
 
 
 def three_coloured() -> dict[str, list[str]]:
@@ -98,35 +99,37 @@ def three_coloured() -> dict[str, list[str]]:
     return {"".join(min(turned)): list(min(turned)) for turned in turns}
 
 
-def instances() -> None:
-    langford("langford-13.dlx", "no pairing", 13)
-    shuffled("pentominoes-6x10.dlx", rectangle(6, 10), 7)
-    shuffled("pentominoes-3x20.dlx", rectangle(3, 20), 3)
-    shuffled("diamond.dlx", diamond(), 2)
-    generate.dominoes("mutilated-chessboard.dlx", "none", rectangle(8, 8) - {(0, 0), (7, 7)})
-    crowd("crowd.dlx", 6)
-    scattered("scattered-19.dlx", 95, 19, 4000, 1)
+def instances() -> Iterator[tuple[str, str, Puzzle]]:
+    """Each instance: its name, what its first comment says, and the problem."""
+    yield "langford-13", "no pairing", generate.langford(13)
+    yield "pentominoes-6x10", NOTE, shuffled(rectangle(6, 10), 7)
+    yield "pentominoes-3x20", NOTE, shuffled(rectangle(3, 20), 3)
+    yield "diamond", NOTE, shuffled(diamond(), 2)
+    yield "mutilated-chessboard", "none", generate.dominoes(rectangle(8, 8) - {(0, 0), (7, 7)})
+    yield "crowd", NOTE, crowd(6)
+    yield "scattered-19", NOTE, scattered(95, 19, 4000, 1)
     # (three divides neither number, so there is no cover)
-    scattered("triples-19.dlx", 19, 3, 300, 1)
-    scattered("triples-22.dlx", 22, 3, 250, 1)
+    yield "triples-19", NOTE, scattered(19, 3, 300, 1)
+    yield "triples-22", NOTE, scattered(22, 3, 250, 1)
     for n in (14, 15, 16):
-        torus_queens(f"torus-queens-{n}.dlx", n)
-        torus_queens(f"torus-queens-{n}-all.dlx", n, 4)
-    generate.squares("macmahon-4x6.dlx", "MacMahon's squares, one colour all round", rectangle(4, 6), three_coloured(), "a")
-    generate.word_squares("word-squares-4.dlx", "two squares of sixteen different words", WORDS.split(), ("a", "b"))
-    generate.sudoku("sudoku-hard.dlx", "few givens, many visits", [
+        yield f"torus-queens-{n}", NOTE, torus_queens(n)
+        yield f"torus-queens-{n}-all", NOTE, torus_queens(n, 4)
+    yield "macmahon-4x6", "MacMahon's squares, one colour all round", generate.squares(rectangle(4, 6), three_coloured(), "a")
+    yield "word-squares-4", "two squares of sixteen different words", generate.word_squares(WORDS.split(), ("a", "b"))
+    yield "sudoku-hard", "few givens, many visits", generate.sudoku([
         "..............3.85..1.2.......5.7.....4...1...9.......5......73..2.1........4...9"[k:k + 9] for k in range(0, 81, 9)])
 
 
 def main() -> None:
     parser = parser_of(__doc__)
     parser.add_argument("folder", metavar="FOLDER", help="where the instances are written")
-    generate.HERE = parser.parse_args().folder
+    folder = parser.parse_args().folder
     try:
-        os.makedirs(generate.HERE, exist_ok=True)
-        instances()
+        os.makedirs(folder, exist_ok=True)
     except OSError as why:
-        stop(f"{generate.HERE} can't be written: {why.strerror}")
+        stop(f"{folder} can't be written: {why.strerror}")
+    for instance in instances():
+        put(folder, *instance)
 
 
 if __name__ == "__main__":

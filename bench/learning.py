@@ -18,10 +18,8 @@ from __future__ import annotations
 
 import os
 import random
-import resource
 import shutil
 import statistics
-import subprocess
 import sys
 import tempfile
 from collections.abc import Callable, Iterator
@@ -29,6 +27,8 @@ from typing import Optional
 
 import finding
 from encodings_of_peers import formula_of, program_of
+from measured import found_cover, run
+from problems import write, write_primary
 
 HERE = os.path.dirname(os.path.abspath(__file__))
 sys.path.insert(0, os.path.join(HERE, "..", "trials"))
@@ -54,11 +54,8 @@ def write_days(path: str, lessons: list[tuple[int, int, int]]) -> None:
     names = [f"l{number}" for number in range(len(lessons))]
     times = [f"{day}-{hour}" for day in range(DAYS) for hour in range(HOURS)]
     secondary = [f"{kind}{number}-{time}" for kind, many in (("c", CLASSES), ("t", TEACHERS)) for number in range(many) for time in times]
-    with open(path, "w", encoding="ascii") as file:
-        print(*names, "|", *secondary, file=file)
-        for name, (who, teacher, day) in zip(names, lessons):
-            for hour in range(HOURS):
-                print(name, f"c{who}-{day}-{hour}", f"t{teacher}-{day}-{hour}", file=file)
+    write(path, names, [[name, f"c{who}-{day}-{hour}", f"t{teacher}-{day}-{hour}"]
+                        for name, (who, teacher, day) in zip(names, lessons) for hour in range(HOURS)], secondary)
 
 
 def days(path: str, draw: random.Random) -> None:
@@ -79,8 +76,7 @@ def days_drawn(path: str, draw: random.Random) -> None:
 
 def school(path: str, draw: random.Random) -> None:
     """A full timetable of as many classes."""
-    finding.CLASSES, finding.TEACHERS = CLASSES, TEACHERS
-    finding.timetable(path, draw)
+    finding.timetable(path, draw, CLASSES, TEACHERS)
 
 
 def box_of(row: int, column: int) -> int:
@@ -123,14 +119,14 @@ def jigsaw(path: str, draw: random.Random) -> None:
     options = [[needs[cell][0], *(f"{kind}{number}-{value}" for kind, number in needs[cell][1])]
                for cell in sorted(square) if cell not in given for value in range(JIGSAW)
                if not any((*need, value) in taken for need in needs[cell][1])]
-    finding.write(path, options)
+    write_primary(path, options)
 
 
 def langford(path: str, draw: random.Random) -> None:
     """Pairs of the numbers from 1 on, those of d with d places between them; the options in an order that is drawn."""
     options = [[f"d{d}", f"s{s}", f"s{s + d + 1}"] for d in range(1, LANGFORD + 1) for s in range(2 * LANGFORD - d - 1)]
     draw.shuffle(options)
-    finding.write(path, options)
+    write_primary(path, options)
 
 
 def board(path: str, draw: random.Random) -> None:
@@ -138,7 +134,7 @@ def board(path: str, draw: random.Random) -> None:
     cells = {(r, c) for r in range(BOARD) for c in range(BOARD)} - {(0, 0), (BOARD - 1, BOARD - 1)}
     pairs = [(cell, other) for cell in cells for other in ((cell[0] + 1, cell[1]), (cell[0], cell[1] + 1)) if other in cells]
     draw.shuffle(pairs)
-    finding.write(path, [[f"x{r}-{c}" for r, c in pair] for pair in pairs])
+    write_primary(path, [[f"x{r}-{c}" for r, c in pair] for pair in pairs])
 
 
 KINDS: dict[str, Callable[[str, random.Random], None]] = {
@@ -146,42 +142,25 @@ KINDS: dict[str, Callable[[str, random.Random], None]] = {
     "langford": langford, "board": board}
 
 
-def timed(words: list[str], given: bytes, seconds: int) -> tuple[str, float]:
-    """What a command writes, within so many seconds, and its processor seconds."""
-    before = resource.getrusage(resource.RUSAGE_CHILDREN)
-    try:
-        written = subprocess.run(words, input=given, stdout=subprocess.PIPE, stderr=subprocess.DEVNULL, timeout=seconds).stdout.decode("ascii")
-    except subprocess.TimeoutExpired:
-        written = ""
-    after = resource.getrusage(resource.RUSAGE_CHILDREN)
-    return written, after.ru_utime + after.ru_stime - before.ru_utime - before.ru_stime
-
-
 def learned(file: str, seed: int, seconds: int) -> Told:
     """Whether `learn` finds a cover, and its seconds."""
-    written, took = timed([SOLVE_CLI, "learn", file, "--seed", str(seed), "--seconds", str(seconds)], b"", seconds + 5)
-    if written.startswith("cover"):
-        told = subprocess.run([SOLVE_CLI, "check", file, "-"], input=written, capture_output=True, text=True).stdout
-        if told != "right\n":
-            sys.exit(f"a wrong cover: seed {seed}")
-        return True, took
-    return (False if written == "none\n" else None), took
+    ran = run([SOLVE_CLI, "learn", file, "--seed", str(seed), "--seconds", str(seconds)], seconds=seconds + 5)
+    return found_cover(file, ran.text, f": seed {seed}"), ran.processor
 
 
 def clasp(file: str, seconds: int) -> Told:
     """The same of clasp; grounding is its own too."""
-    program = "\n".join(program_of(file)).encode("ascii")
-    ground, first = timed(["gringo", "-"], program, seconds)
-    written, took = timed(["clasp", "-q2,2"], ground.encode("ascii"), seconds)
+    ground = run(["gringo", "-"], "\n".join(program_of(file)), seconds)
+    ran = run(["clasp", "-q2,2"], ground.text, seconds)
     answers = {"SATISFIABLE": True, "UNSATISFIABLE": False}
-    return next((answers[line] for line in written.splitlines() if line in answers), None), first + took
+    return next((answers[line] for line in ran.text.splitlines() if line in answers), None), ground.processor + ran.processor
 
 
 def cadical(file: str, seconds: int) -> Told:
     """The same of CaDiCaL."""
-    written, took = timed(["cadical", "-q", "-n"], "\n".join(formula_of(file)).encode("ascii"), seconds)
+    ran = run(["cadical", "-q", "-n"], "\n".join(formula_of(file)), seconds)
     answers = {"s SATISFIABLE": True, "s UNSATISFIABLE": False}
-    return next((answers[line] for line in written.splitlines() if line in answers), None), took
+    return next((answers[line] for line in ran.text.splitlines() if line in answers), None), ran.processor
 
 
 def runs_of(file: str, seconds: int) -> Iterator[list[Told]]:

@@ -24,7 +24,8 @@ import tempfile
 import time
 from collections.abc import Callable, Iterable
 
-from implied import planned, write
+from implied import planned
+from problems import write
 
 HERE = os.path.dirname(os.path.abspath(__file__))
 sys.path.insert(0, os.path.join(HERE, "..", "trials"))

@@ -21,49 +21,32 @@ import contextlib
 import glob
 import os
 import random
-import resource
 import shlex
 import signal
 import subprocess
 import sys
 import tempfile
 import time
-from typing import NamedTuple
 
 HERE = os.path.dirname(os.path.abspath(__file__))
 sys.path.insert(0, os.path.join(HERE, "..", "trials"))
-from built import SOLVE_CLI, TOP, number_from_one, parser_of, stop, want_command, want_program  # noqa: E402
+from built import SOLVE_CLI, TOP, is_right, number_from_one, parser_of, stop, want_command, want_program  # noqa: E402
+from measured import run  # noqa: E402
+from problems import write  # noqa: E402
 
 # items and options; and whether there is a cover, behind a search without one
 INSTANCES = {"short": (52, 1500, False), "short-late": (52, 1500, True), "fives": (62, 1500, False), "late": (62, 1500, True)}
 OUTCOMES = {"short": 1, "short-late": 0, "fives": 1, "late": 0}
 
 
-def write(path: str, items: int, count: int, with_cover: bool) -> None:
+def write_drawn(path: str, items: int, count: int, with_cover: bool) -> None:
     """Writes a problem of random options of five items."""
     draw = random.Random(1)
     names = [f"i{k}" for k in range(items)]
     options = [draw.sample(names, 5) for _ in range(count)]
     if with_cover:
         names, options = [*names, "door"], [["door"], *options, ["door", *names[-2:]]]
-    with open(path, "w", encoding="ascii") as file:
-        for words in [names, *(sorted(option, key=names.index) for option in options)]:
-            print(*words, file=file)
-
-
-class Run(NamedTuple):
-    """How long a run took, in seconds and in processor seconds, and its exit status."""
-    seconds: float
-    used: float
-    status: int
-
-
-def timed(words: list[str]) -> Run:
-    """Runs a command to its end."""
-    before, begun = resource.getrusage(resource.RUSAGE_CHILDREN), time.monotonic()
-    status = subprocess.run(words, stdout=subprocess.DEVNULL, stderr=subprocess.DEVNULL).returncode
-    after = resource.getrusage(resource.RUSAGE_CHILDREN)
-    return Run(time.monotonic() - begun, after.ru_utime + after.ru_stime - before.ru_utime - before.ru_stime, status)
+    write(path, names, [sorted(option, key=names.index) for option in options], [])
 
 
 def answers(folder: str) -> int:
@@ -101,23 +84,19 @@ def script(name: str, *words: str) -> list[str]:
     return [sys.executable, os.path.join(TOP, "scripts", "zarfepoch"), name, *words]
 
 
-def is_right(name: str, folder: str) -> bool:
+def is_joined_right(name: str, folder: str) -> bool:
     """Whether the joined answer is of the kind that it has to be, and a cover right."""
     said = subprocess.run(script("join", folder), capture_output=True, text=True)
-    answer = os.path.join(folder, "answer")
-    with open(answer, "w", encoding="ascii") as file:
-        file.write(said.stdout)
     if said.returncode == 0:
-        checked = subprocess.run([SOLVE_CLI, "check", os.path.join(folder, "whole.dlx"), answer], capture_output=True, text=True)
-        return OUTCOMES[name] == 0 and checked.stdout == "right\n"
+        return OUTCOMES[name] == 0 and is_right(os.path.join(folder, "whole.dlx"), said.stdout)
     return said.returncode == OUTCOMES[name]
 
 
 def row(name: str, given: argparse.Namespace, top: str) -> bool:
     """Times an instance, prints its row, and answers whether its answer is right."""
     file, folder = os.path.join(top, f"{name}.dlx"), os.path.join(top, name)
-    write(file, *INSTANCES[name])
-    split = timed(script("split", file, "--parts", str(given.parts), "--into", folder))
+    write_drawn(file, *INSTANCES[name])
+    split = run(script("split", file, "--parts", str(given.parts), "--into", folder))
     parts = len(glob.glob(os.path.join(folder, "part-*.dlx")))
     run_part = os.path.join(TOP, "scripts", "run_part.sh")
     # (parallel hands its command to a shell once more)
@@ -126,14 +105,14 @@ def row(name: str, given: argparse.Namespace, top: str) -> bool:
     words = ["sh", "-c", line, "sh", *script("join", folder)]
     first = killed_after(words, folder, parts // 2)
     done = answers(folder)
-    second = timed(words)
-    right, times = is_right(name, folder), logged(folder)
-    cells = [name, f"{split.seconds:.1f}", parts, f"{first:.0f}, {done}", f"{second.seconds:.0f}", f"{first + second.seconds:.0f}",
+    second = run(words)
+    right, times = is_joined_right(name, folder), logged(folder)
+    cells = [name, f"{split.wall:.1f}", parts, f"{first:.0f}, {done}", f"{second.wall:.0f}", f"{first + second.wall:.0f}",
              f"{sum(times):.0f}", f"{max(times):.0f}", "right" if right else "WRONG"]
     if given.beside:
-        alone, solve = timed([SOLVE_CLI, "alone", file]), timed([SOLVE_CLI, "solve", file, "--nodes", "1", "--workers", str(given.jobs)])
+        alone, solve = run([SOLVE_CLI, "alone", file]), run([SOLVE_CLI, "solve", file, "--nodes", "1", "--workers", str(given.jobs)])
         right = right and alone.status == solve.status == OUTCOMES[name]
-        cells += [f"{alone.seconds:.0f}", f"{solve.seconds:.0f}"]
+        cells += [f"{alone.wall:.0f}", f"{solve.wall:.0f}"]
     print(f"| {' | '.join(map(str, cells))} |", flush=True)
     return right
 

@@ -5,7 +5,7 @@
 
 Each file has 1,000 items and 20,000 options of ten items each. Its names are random and of seven bytes, random and of 32 bytes,
 or of 32 bytes of which the first 30 are the same, the worst for a comparison byte by byte. The program is `alone` with `--fuel 1`,
-by turns over the files; the least user time of the whole process counts. The ratio is to the time of random names of the same
+by turns over the files; the least processor time of the whole process counts, user and system. The ratio is to the time of random names of the same
 length.
 
 It wants the program: (cd crates/solve_cli && rt run -- --version) builds it. The exit status is 0, 1 where a run ends otherwise than without
@@ -22,6 +22,8 @@ import tempfile
 HERE = os.path.dirname(os.path.abspath(__file__))
 sys.path.insert(0, os.path.join(HERE, "..", "trials"))
 from built import number_from_one, parser_of, SOLVE_CLI, want_program  # noqa: E402
+from measured import Ran, run  # noqa: E402
+from problems import write  # noqa: E402
 
 ITEMS, OPTIONS, EACH = 1000, 20000, 10
 LETTERS = string.ascii_lowercase + string.digits
@@ -41,20 +43,9 @@ def common_names(draw: random.Random, length: int) -> list[str]:
     return ["n" * (length - 2) + end for end in draw.sample(ends, ITEMS)]
 
 
-def write(path: str, names: list[str], draw: random.Random) -> None:
+def write_drawn(path: str, names: list[str], draw: random.Random) -> None:
     """The greatest file in range with these names."""
-    with open(path, "w") as out:
-        print(*names, file=out)
-        for _ in range(OPTIONS):
-            print(*draw.sample(names, EACH), file=out)
-
-
-def measured(file: str) -> tuple[int, float]:
-    """The exit status of one run, and its seconds of user time."""
-    quiet = [(os.POSIX_SPAWN_OPEN, stream, os.devnull, os.O_WRONLY, 0) for stream in (1, 2)]
-    process = os.posix_spawn(SOLVE_CLI, [SOLVE_CLI, "alone", file, "--fuel", "1"], os.environ, file_actions=quiet)
-    _, status, usage = os.wait4(process, 0)
-    return os.waitstatus_to_exitcode(status), usage.ru_utime
+    write(path, names, [draw.sample(names, EACH) for _ in range(OPTIONS)], [])
 
 
 def main() -> int:
@@ -69,15 +60,15 @@ def main() -> int:
         files: dict[str, str] = {}
         for kind, names in kinds.items():
             files[kind] = os.path.join(folder, f"{len(files)}.dlx")
-            write(files[kind], names, draw)
-        runs: dict[str, list[tuple[int, float]]] = {kind: [] for kind in files}
+            write_drawn(files[kind], names, draw)
+        runs: dict[str, list[Ran]] = {kind: [] for kind in files}
         for _ in range(times):
             for kind, file in files.items():
-                runs[kind].append(measured(file))
-        if any(status != 4 for kind in runs for status, _ in runs[kind]):
+                runs[kind].append(run([SOLVE_CLI, "alone", file, "--fuel", "1"]))
+        if any(ran.status != 4 for kind in runs for ran in runs[kind]):
             print("a run did not end without an answer")
             return 1
-        least = {kind: min(seconds for _, seconds in runs[kind]) for kind in runs}
+        least = {kind: min(ran.processor for ran in runs[kind]) for kind in runs}
         print("| Names | Size, MB | Seconds | Ratio |\n|---|---|---|---|")
         for kind, seconds in least.items():
             beside = f"{seconds / least['random, 32 bytes']:.2f}" if "32" in kind else "-"

@@ -15,18 +15,19 @@ from __future__ import annotations
 
 import os
 import random
-import resource
 import subprocess
 import sys
 import tempfile
-import time
 from collections.abc import Iterator
-from typing import NamedTuple, Optional
+from typing import Optional
 
 HERE = os.path.dirname(os.path.abspath(__file__))
 sys.path.insert(0, os.path.join(HERE, "..", "trials"))
 from built import SOLVE_CLI, TOP, number_from_one, parser_of, stop, want_program  # noqa: E402
+import measured  # noqa: E402
+from problems import put, straight  # noqa: E402
 from zarfepoch import generate  # noqa: E402
+from zarfepoch.puzzle_texts import Puzzle  # noqa: E402
 
 ZARFEPOCH = [sys.executable, os.path.join(TOP, "scripts", "zarfepoch")]
 EXAMPLES = ("langford-5", "mutilated-chessboard", "tetrominoes-4x5")
@@ -42,32 +43,23 @@ FAMILIES = ("dominoes-20x20", "dominoes-30x30", "langford-13", "langford-14", "l
 
 # ---- what the folder of instances lacks
 
-def straight(name: str, side: int, length: int) -> None:
-    """Straight pieces of so many cells on a square board, which lacks its first cell."""
-    names = generate.names_of(generate.rectangle(side, side) - {(0, 0)})
-    rows = [[(row, column + k) for k in range(length)] for row in range(side) for column in range(side - length + 1)]
-    columns = [[(row + k, column) for k in range(length)] for row in range(side - length + 1) for column in range(side)]
-    options = [[names[cell] for cell in piece] for piece in rows + columns if (0, 0) not in piece]
-    generate.write(name, "none", list(names.values()), [], options)
-
-
-def tetrominoes(name: str, side: int) -> None:
+def tetrominoes(side: int) -> Puzzle:
     """Tetrominoes like a T on a square board."""
     cells = generate.rectangle(side, side)
     options = [option[1:] for option in generate.placements({"T": generate.TETROMINOES["T"]}, cells)]
-    generate.write(name, "none", list(generate.names_of(cells).values()), [], options)
+    return Puzzle(list(generate.names_of(cells).values()), [], options)
 
 
-def lessons(name: str, hours: list[list[int]], periods: int) -> None:
+def lessons(hours: list[list[int]], periods: int) -> Puzzle:
     """A timetable: each row has a class's hours with each teacher."""
     names = {f"{who}-{teacher}-{hour}": (f"t{teacher}", f"c{who}")
              for who, row in enumerate(hours) for teacher, count in enumerate(row) for hour in range(count)}
     options = [[lesson, *(f"{one}-{at}" for one in both)] for lesson, both in names.items() for at in range(periods)]
     busy = sorted({word for option in options for word in option[1:]})
-    generate.write(name, "none", list(names), busy, options)
+    return Puzzle(list(names), busy, options)
 
 
-def quasigroup(name: str, order: int, filled: int, seed: int) -> None:
+def quasigroup(order: int, filled: int, seed: int) -> Puzzle:
     """A square of so many rows and numbers in which so many cells are filled one by one, by what no row and column has; each row and
     column is to have each number."""
     draw = random.Random(seed)
@@ -79,10 +71,10 @@ def quasigroup(name: str, order: int, filled: int, seed: int) -> None:
         if open_values:
             free.difference_update(parts[r, c, draw.choice(open_values)])
     options = [list(part) for part in parts.values() if free.issuperset(part)]
-    generate.write(name, f"{len(free)} items are free", sorted(free), [], options)
+    return Puzzle(sorted(free), [], options)
 
 
-def limits(name: str, size: int) -> None:
+def limits(size: int) -> Puzzle:
     """The most items and options that a file may have: options of so many items, some of which make up a cover."""
     draw = random.Random(size)
     items = [f"i{k}" for k in range(1000)]
@@ -90,58 +82,40 @@ def limits(name: str, size: int) -> None:
     options = [order[place:place + size] for place in range(0, len(items), size)]
     options += [draw.sample(items, size) for _ in range(20_000 - len(options))]
     draw.shuffle(options)
-    generate.write(name, "a cover, among many options", items, [], options)
+    return Puzzle(items, [], options)
 
 
 def write_instances(folder: str) -> None:
     """All instances."""
     subprocess.run([sys.executable, os.path.join(HERE, "instances.py"), folder], check=True)
-    generate.HERE = folder
     for side in (20, 30):
         cells = generate.rectangle(side, side) - {(0, 0), (side - 1, side - 1)}
-        generate.dominoes(f"dominoes-{side}x{side}.dlx", "without two opposite corners", cells)
+        put(folder, f"dominoes-{side}x{side}", "without two opposite corners", generate.dominoes(cells))
     for count in (13, 14, 16, 17, 18, 22):
-        generate.langford(f"langford-{count}.dlx", "pairs", count)
-    tetrominoes("t-tetrominoes-22x22.dlx", 22)
-    straight("straight-trominoes-14x14.dlx", 14, 3)
+        put(folder, f"langford-{count}", "pairs", generate.langford(count))
+    put(folder, "t-tetrominoes-22x22", "none", tetrominoes(22))
+    items, pieces = straight(generate.rectangle(14, 14) - {(0, 0)}, 3)
+    put(folder, "straight-trominoes-14x14", "none", Puzzle(items, [], pieces))
     for points in (10, 11):
-        generate.triples(f"steiner-{points}.dlx", "triples", points)
-    lessons("class-25-in-24.dlx", [[25]], 24)
+        put(folder, f"steiner-{points}", "triples", generate.triples(points))
+    put(folder, "class-25-in-24", "none", lessons([[25]], 24))
     # (the first teacher has 26 hours)
-    lessons("school-of-8.dlx", [[5, 2, 2, 3, 3, 3, 3, 3], *[[3] * 8] * 7], 25)
+    put(folder, "school-of-8", "none", lessons([[5, 2, 2, 3, 3, 3, 3, 3], *[[3] * 8] * 7], 25))
     for order, filled, seed in QUASIGROUPS:
-        quasigroup(f"quasigroup-{order}-{filled}-{seed}.dlx", order, filled, seed)
+        square = quasigroup(order, filled, seed)
+        put(folder, f"quasigroup-{order}-{filled}-{seed}", f"{len(square.primary)} items are free", square)
     for size in LIMITS:
-        limits(f"limits-{size}.dlx", size)
+        put(folder, f"limits-{size}", "a cover, among many options", limits(size))
 
 
 # ---- the table
 
-class Ran(NamedTuple):
-    """What a command wrote, its status, and its processor and wall seconds."""
-    text: str
-    status: int
-    processor: float
-    wall: float
-
-
-def run_once(words: list[str], seconds: int) -> Optional[Ran]:
-    """What came of a command; none where it doesn't end in time."""
-    before, began = resource.getrusage(resource.RUSAGE_CHILDREN), time.monotonic()
-    try:
-        ran = subprocess.run(words, capture_output=True, text=True, timeout=seconds)
-    except subprocess.TimeoutExpired:
-        return None
-    after, wall = resource.getrusage(resource.RUSAGE_CHILDREN), time.monotonic() - began
-    return Ran(ran.stdout, ran.returncode, after.ru_utime + after.ru_stime - before.ru_utime - before.ru_stime, wall)
-
-
-def run(words: list[str], seconds: int, times: int) -> Optional[Ran]:
-    """The same, with the least seconds of several runs."""
-    best: Optional[Ran] = None
+def run(words: list[str], seconds: int, times: int) -> Optional[measured.Ran]:
+    """What came of a command, with the least seconds of several runs; none where it doesn't end in time."""
+    best: Optional[measured.Ran] = None
     for _ in range(times):
-        found = run_once(words, seconds)
-        if found is None:
+        found = measured.run(words, seconds=seconds)
+        if found.status is None:
             return None
         best = best or found
         best = found._replace(processor=min(best.processor, found.processor), wall=min(best.wall, found.wall))

@@ -3,8 +3,8 @@
 
     python3 bench/run.py [--times N] [--sage FOLDER] [FILE ..]
 
-Each file, or where none is named each instance of the benchmark, is searched by all of them, by turns; the least user time of
-the whole process counts, reading included. It prints a table, in which the ratio is to the better one of the two others, where that takes
+Each file, or where none is named each instance of the benchmark, is searched by all of them, by turns; the least processor time
+of the whole process counts, user and system, reading included. It prints a table, in which the ratio is to the better one of the two others, where that takes
 more than a hundredth of a second, and the geometric mean of the ratios, over all and over those with more than 100,000 visits.
 
 SageMath is not timed on files with colours, which it doesn't know. FOLDER is where its file dancing_links_c.h lies; without it that of
@@ -20,7 +20,6 @@ import argparse
 import glob
 import math
 import os
-import resource
 import subprocess
 import sys
 import tempfile
@@ -28,17 +27,12 @@ import tempfile
 HERE = os.path.dirname(os.path.abspath(__file__))
 sys.path.insert(0, os.path.join(HERE, "..", "trials"))
 from built import number_from_one, parser_of, SOLVE_CLI, stop, want_command, want_program  # noqa: E402
+from measured import run  # noqa: E402
 
-# less time than this counts as this, in seconds: the system counts no less
+# less time than this counts as this, in seconds
 LEAST = 0.0005
 HEADER = "dancing_links_c.h"
 INSTALLED = "/usr/lib/python3/dist-packages/sage/combinat/matrices"
-
-
-def timed(words: list[str]) -> tuple[str, float]:
-    before = resource.getrusage(resource.RUSAGE_CHILDREN).ru_utime
-    ended = subprocess.run(words, capture_output=True, text=True)
-    return ended.stdout, resource.getrusage(resource.RUSAGE_CHILDREN).ru_utime - before
 
 
 def compare(programs: list[list[str]], file: str, times: int) -> tuple[str, int, list[float]]:
@@ -47,9 +41,9 @@ def compare(programs: list[list[str]], file: str, times: int) -> tuple[str, int,
     for _ in range(times):
         told = []
         for place, words in enumerate(programs):
-            text, seconds = timed([*words, file])
-            told.append(text)
-            best[place] = min(best[place], seconds)
+            ran = run([*words, file])
+            told.append(ran.text)
+            best[place] = min(best[place], ran.processor)
     outcome, visits, _ = told[1].split()
     if not all(text.startswith(outcome) for text in told):
         sys.exit(f"{file}: the outcomes differ")

@@ -17,7 +17,6 @@ from __future__ import annotations
 import math
 import os
 import random
-import resource
 import shutil
 import subprocess
 import sys
@@ -27,7 +26,10 @@ from typing import Optional
 HERE = os.path.dirname(os.path.abspath(__file__))
 sys.path.insert(0, os.path.join(HERE, "..", "trials"))
 from built import WORKBENCH, number_from_one, parser_of, stop, want_program  # noqa: E402
+from measured import run  # noqa: E402
+from problems import put  # noqa: E402
 from zarfepoch import generate  # noqa: E402
+from zarfepoch.puzzle_texts import Puzzle  # noqa: E402
 
 KINDS = ["links", "sets"]
 
@@ -41,37 +43,33 @@ def near(draw: random.Random, places: int) -> list[int]:
 
 def sparse_instances(folder: str) -> None:
     """Hundreds of items, and options that bar few others."""
-    generate.HERE = folder
     for rows, columns in ((12, 10), (20, 20)):
         cells = generate.rectangle(rows, columns) - {(0, 0), (rows - 1, columns - 1)}
-        generate.dominoes(f"dominoes-{rows}x{columns}.dlx", "without two corners of one colour", cells)
+        put(folder, f"dominoes-{rows}x{columns}", "without two corners of one colour", generate.dominoes(cells))
     draw, names = random.Random(5), [f"i{k}" for k in range(1000)]
     local = [[names[k] for k in near(draw, 1000)] for _ in range(20000)]
-    generate.write("local-1000.dlx", "options of items next to one another", names, [], local)
+    put(folder, "local-1000", "options of items next to one another", Puzzle(names, [], local))
     few = [[names[k] for k in sorted({item, *draw.sample(range(1000), draw.randrange(3))})] for item in range(1000) for _ in range(6)]
-    generate.write("primary-1000.dlx", "six options of one to three items for each item", names, [], few)
+    put(folder, "primary-1000", "six options of one to three items for each item", Puzzle(names, [], few))
 
 
 def uneven_instances(folder: str) -> None:
     """Options that agree where they meet, and a hard core that averages hide."""
-    generate.HERE = folder
     names = [f"c{row}-{column}" for row in range(33) for column in range(30)]
     beside = [(place, place + 1) for place in range(990) if place % 30 < 29] + [(place, place + 30) for place in range(960)]
     same = [[names[place] for place in both] + ["x:A", "y:A", "z:A"] for both in beside if 0 not in both and 988 not in both]
     left = [name for place, name in enumerate(names) if place not in (0, 988)]
-    generate.write("agreed-dominoes.dlx", "dominoes, and three items to which all of them give one colour", left, ["x", "y", "z"], same)
+    put(folder, "agreed-dominoes", "dominoes, and three items to which all of them give one colour", Puzzle(left, ["x", "y", "z"], same))
     draw, hard, easy = random.Random(7), [f"h{k}" for k in range(95)], [f"e{k}" for k in range(400)]
     core = [sorted(draw.sample(hard, 19)) for _ in range(4000)]
-    generate.write("hard-core.dlx", "4,000 options of 19 of 95 items, and 400 items with 40 options of their own each", hard + easy, [],
-                   core + [[item] for item in easy for _ in range(40)])
+    put(folder, "hard-core", "4,000 options of 19 of 95 items, and 400 items with 40 options of their own each",
+        Puzzle(hard + easy, [], core + [[item] for item in easy for _ in range(40)]))
 
 
 def told(file: str, kind: str, fuel: int) -> tuple[list[str], float]:
     """What the program writes of a search, in words, and its processor seconds."""
-    before = resource.getrusage(resource.RUSAGE_CHILDREN)
-    text = subprocess.run([WORKBENCH, "search", file, kind, "plain", str(fuel)], capture_output=True, text=True).stdout
-    after = resource.getrusage(resource.RUSAGE_CHILDREN)
-    return text.split(), after.ru_utime + after.ru_stime - before.ru_utime - before.ru_stime
+    ran = run([WORKBENCH, "search", file, kind, "plain", str(fuel)])
+    return ran.text.split(), ran.processor
 
 
 def instructions(file: str, kind: str, fuel: int) -> Optional[int]:

@@ -3,8 +3,8 @@
 
     python3 bench/simulate.py [--long]
 
-Each row lets a world of so many nodes take so many turns by chance, from seed 1, and tells turns a second of user time, the
-packets sent, and the most memory of the process. `letters` and `queens-8` are published before their turns are over; the
+Each row lets a world of so many nodes take so many turns by chance, from seed 1, and tells turns a second of processor time,
+user and system, the packets sent, and the most memory of the process. `letters` and `queens-8` are published before their turns are over; the
 chessboard has no cover and a search too long for these turns. On the last rows one node splits Langford pairs of 13 at each
 visit, so its table grows: to 26,000 children in 400,000 turns.
 
@@ -14,7 +14,6 @@ on the command line or where there is no program.
 from __future__ import annotations
 
 import os
-import resource
 import subprocess
 import sys
 import tempfile
@@ -24,6 +23,7 @@ from typing import Optional
 HERE = os.path.dirname(os.path.abspath(__file__))
 sys.path.insert(0, os.path.join(HERE, "..", "trials"))
 from built import parser_of, want_program, WORKBENCH  # noqa: E402
+from measured import spent  # noqa: E402
 
 EXAMPLES = os.path.join(HERE, "..", "examples")
 
@@ -51,9 +51,8 @@ def most_memory(pid: int) -> Optional[int]:
 
 
 def run(words: list[str]) -> tuple[str, float, int]:
-    """The output of the program, its user time, and its greatest memory in bytes, which is looked at each 2 milliseconds."""
-    before = resource.getrusage(resource.RUSAGE_CHILDREN).ru_utime
-    memory = 0
+    """The output of the program, its processor time, and its greatest memory in bytes, which is looked at each 2 milliseconds."""
+    before, memory = spent(), 0
     with subprocess.Popen([WORKBENCH, *words], stdout=subprocess.PIPE, text=True) as child:
         while child.poll() is None:
             memory = max(memory, most_memory(child.pid) or 0)
@@ -61,7 +60,7 @@ def run(words: list[str]) -> tuple[str, float, int]:
         text = child.stdout.read() if child.stdout else ""
     if child.returncode:
         sys.exit(f"the program failed: {words}")
-    return text, resource.getrusage(resource.RUSAGE_CHILDREN).ru_utime - before, memory
+    return text, spent() - before, memory
 
 
 def main() -> None:

@@ -27,21 +27,20 @@ import time
 
 HERE = os.path.dirname(os.path.abspath(__file__))
 sys.path.insert(0, os.path.join(HERE, "..", "trials"))
-from built import number_from_one, parser_of, SOLVE_CLI, stop, want_program  # noqa: E402
+from built import is_right, number_from_one, parser_of, SOLVE_CLI, stop, want_program  # noqa: E402
+from problems import put  # noqa: E402
 from states import write_instances  # noqa: E402
-from zarfepoch import generate  # noqa: E402
+from zarfepoch import puzzles  # noqa: E402
+from zarfepoch.puzzle_texts import Puzzle  # noqa: E402
 
 NAMES = ["langford-13", "langford-13-long", "torus-queens-15", "skewed", "skewed-long", "diamond", "pentominoes-3x20", "sudoku-hard", "mutilated-chessboard"]
 # nodes, workers
 SITES = [(1, 1), (1, 2), (1, 4), (2, 1), (4, 1)]
 
 
-# the pairs' numbers, their places, and the options of Langford pairs of 13, which have no pairing
-NUMBERS = [str(number) for number in range(1, 14)]
-PLACES = [f"s{place}" for place in range(1, 27)]
-PAIRS = [[str(d), f"s{place}", f"s{place + d + 1}"] for d in range(1, 14) for place in range(1, 26 - d)]
-
-
+# the numbers with their places, and the options of Langford pairs of 13, which have no pairing
+NUMBERS_AND_PLACES, _, PAIRS = puzzles.langford(13)
+PLACES = NUMBERS_AND_PLACES[13:]
 # thirty choices, each of which leaves all of the work to one of its two options
 SKEWED = [f"z{k}" for k in range(30)]
 SKEWED_WAYS = [way for choice in SKEWED for way in ([choice, *PLACES], [choice])]
@@ -54,9 +53,7 @@ def behind(folder: str, name: str, counts: list[int], skewed: bool = False) -> N
     ways = [[f"x{k}", f"y{k}.{way}"] for k, count in enumerate(counts) for way in range(count)]
     if skewed:
         choices, ways = SKEWED + choices, SKEWED_WAYS + ways
-    generate.HERE = folder
-    generate.write(f"{name}.dlx", f"choices that make the work {math.prod(counts)} times as much", choices + NUMBERS + PLACES,
-                   marks, ways + PAIRS)
+    put(folder, name, f"choices that make the work {math.prod(counts)} times as much", Puzzle(choices + NUMBERS_AND_PLACES, marks, ways + PAIRS))
 
 
 def timed(words: list[str]) -> tuple[str, float]:
@@ -74,23 +71,14 @@ def at_once(file: str, count: int) -> float:
     return time.monotonic() - start
 
 
-def is_right(file: str, text: str, folder: str) -> bool:
-    """Whether `check` calls the answer right."""
-    answer = os.path.join(folder, "answer")
-    with open(answer, "w") as out:
-        out.write(text)
-    told = subprocess.run([SOLVE_CLI, "check", file, answer], capture_output=True, text=True).stdout
-    return told == "right\n"
-
-
-def answer(words: list[str], said: str, folder: str) -> tuple[str, float]:
+def answer(words: list[str], said: str) -> tuple[str, float]:
     """The outcome of a run and its seconds; the outcome that was said before, and no seconds, where it gives no answer. Any other
     outcome ends all."""
     text, seconds = timed(words)
     if text == "no answer\n":
         return said, math.inf
     outcome = text.partition(" ")[0].strip()
-    if outcome not in ("cover", "none") or outcome != (said or outcome) or (outcome == "cover" and not is_right(words[1], text, folder)):
+    if outcome not in ("cover", "none") or outcome != (said or outcome) or (outcome == "cover" and not is_right(words[1], text)):
         sys.exit(f"a wrong answer: {words}")
     return outcome, seconds
 
@@ -102,7 +90,7 @@ def cell(seconds: float, alone: float = math.inf) -> str:
     return f"{seconds:.3f}" + (f" ({alone / seconds:.2f})" if alone < math.inf else "")
 
 
-def row(name: str, file: str, given: argparse.Namespace, folder: str) -> str:
+def row(name: str, file: str, given: argparse.Namespace) -> str:
     """The row of an instance."""
     commands = [["alone", file], ["alone", file, "--unlimited"]]
     commands += [["solve", file, "--nodes", str(nodes), "--workers", str(workers), "--seconds", str(given.seconds)] for nodes, workers in SITES]
@@ -111,7 +99,7 @@ def row(name: str, file: str, given: argparse.Namespace, folder: str) -> str:
         seed = ["--seed", str(turn + 1)]
         for place, words in enumerate(commands):
             if turn == 0 or best[place] < math.inf:
-                said, seconds = answer(words + seed * (words[0] == "solve"), said, folder)
+                said, seconds = answer(words + seed * (words[0] == "solve"), said)
                 best[place] = min(best[place], seconds)
         if best[0] < math.inf:
             four = min(four, at_once(file, 4))
@@ -138,7 +126,7 @@ def main() -> None:
             file = os.path.join(folder, name + ".dlx")
             if not os.path.exists(file):
                 stop(f"there is no instance {name}")
-            print(row(name, file, given, folder), flush=True)
+            print(row(name, file, given), flush=True)
 
 
 if __name__ == "__main__":

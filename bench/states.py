@@ -32,7 +32,10 @@ HERE = os.path.dirname(os.path.abspath(__file__))
 sys.path.insert(0, os.path.join(HERE, "..", "trials"))
 from built import SOLVE_CLI, WORKBENCH, number_from_one, parser_of, stop, want_program  # noqa: E402
 from encodings_of_peers import formula_of, program_of  # noqa: E402
+from measured import ended, processor_seconds  # noqa: E402
+from problems import put, straight  # noqa: E402
 from zarfepoch import generate  # noqa: E402
+from zarfepoch.puzzle_texts import Puzzle  # noqa: E402
 
 GREATEST = str(2 ** 64 - 1)
 BOARDS = (8, 10, 12, 14, 16, 18, 20)
@@ -51,32 +54,23 @@ Found = tuple[str, float]
 Task = Callable[[], Optional[Found]]
 
 
-def pigeons(name: str, count: int) -> None:
+def pigeons(count: int) -> Puzzle:
     """So many pigeons, and one hole less."""
     holes = [f"h{hole}" for hole in range(count - 1)]
     options = [[f"p{pigeon}", hole] for pigeon in range(count) for hole in holes]
-    generate.write(name, "none", [f"p{pigeon}" for pigeon in range(count)], holes, options)
-
-
-def straight(name: str, side: int) -> None:
-    """Straight pieces of four cells on a square board."""
-    rows = [[(row, column + k) for k in range(4)] for row in range(side) for column in range(side - 3)]
-    columns = [[(row + k, column) for k in range(4)] for row in range(side - 3) for column in range(side)]
-    names = generate.names_of(generate.rectangle(side, side))
-    options = [[names[cell] for cell in piece] for piece in rows + columns]
-    generate.write(name, "none", list(names.values()), [], options)
+    return Puzzle([f"p{pigeon}" for pigeon in range(count)], holes, options)
 
 
 def write_instances(folder: str) -> None:
     """The benchmark's instances, and families in which states repeat."""
     subprocess.run([sys.executable, os.path.join(HERE, "instances.py"), folder], check=True)
-    generate.HERE = folder
     for side in BOARDS:
         cells = generate.rectangle(side, side) - {(0, 0), (side - 1, side - 1)}
-        generate.dominoes(f"dominoes-{side}x{side}.dlx", "without two opposite corners", cells)
-    generate.dominoes("dominoes-13x13.dlx", "an odd number of cells", generate.rectangle(13, 13))
-    pigeons("pigeons-12.dlx", 12)
-    straight("straight-14x14.dlx", 14)
+        put(folder, f"dominoes-{side}x{side}", "without two opposite corners", generate.dominoes(cells))
+    put(folder, "dominoes-13x13", "an odd number of cells", generate.dominoes(generate.rectangle(13, 13)))
+    put(folder, "pigeons-12", "none", pigeons(12))
+    items, pieces = straight(generate.rectangle(14, 14), 4)
+    put(folder, "straight-14x14", "none", Puzzle(items, [], pieces))
 
 
 def run(words: list[str], seconds: int, lines: Iterable[str] = ()) -> Optional[Found]:
@@ -85,13 +79,12 @@ def run(words: list[str], seconds: int, lines: Iterable[str] = ()) -> Optional[F
         given.writelines(f"{line}\n" for line in lines)
         given.seek(0)
         process = subprocess.Popen([*LIMITED, str(seconds), *words], stdin=given, stdout=out, stderr=subprocess.DEVNULL)
-        _, status, used = os.wait4(process.pid, 0)
-        process.returncode = os.waitstatus_to_exitcode(status)
-        if process.returncode < 0 and used.ru_utime + used.ru_stime > 0.9 * seconds:
+        used = processor_seconds(ended(process))
+        if process.returncode < 0 and used > 0.9 * seconds:
             return None
         out.seek(0)
         told = [WORDS[word] for word in out.read().split() if word in WORDS]
-    return told[0] if told else "no answer", used.ru_utime + used.ru_stime
+    return told[0] if told else "no answer", used
 
 
 def least(words: list[str], times: int, seconds: int, lines: Iterable[str] = ()) -> Optional[Found]:

@@ -1,13 +1,14 @@
 #!/usr/bin/env python3
-"""Writes a man page and completions for bash and zsh, made from the program's own help.
+"""Writes man pages and completions for bash and zsh of the program and of the commands zarfepoch and zarfepoch-*, made from their own help.
 
-    dev/help_pages.py FOLDER
+    dev/help_pages.py [--package] FOLDER
 
-FOLDER gets `solve_cli.1`, `solve_cli.bash` and `_solve_cli`. Each option, argument and sentence in them comes from what the
-built program prints for `--help`, so they can't differ from it. scripts/install.sh puts them where they belong.
+FOLDER gets, for the program solve_cli and for each command NAME, `NAME.1`, `NAME.bash` and `_NAME`. Each option, argument and sentence in them comes
+from what they print for `--help`, so they can't differ from it. With --package those of the program are left out. scripts/install.sh puts them where
+they belong.
 
-It wants the program: (cd crates/solve_cli && rt run -- --version) builds it. The exit status is 0, or 2 for a mistake on the command line,
-where there is no program, or where its help doesn't read as expected.
+It wants the program: (cd crates/solve_cli && rt run -- --version) builds it; with --package none. The exit status is 0, or 2 for a mistake on the
+command line, where there is no program, or where a help doesn't read as expected.
 """
 from __future__ import annotations
 
@@ -15,13 +16,18 @@ import os
 import re
 import subprocess
 import sys
-from dataclasses import dataclass, field
+from collections.abc import Iterator
 
 sys.path.insert(0, os.path.join(os.path.dirname(os.path.abspath(__file__)), "..", "trials"))
 from built import SOLVE_CLI, parser_of, stop, want_program  # noqa: E402
+from help_texts import PROGRAM, Help, command_help, longs, program_help  # noqa: E402
+import zarfepoch  # noqa: E402
+from zarfepoch.commands import COMMANDS  # noqa: E402
+from zarfepoch.generate import KINDS  # noqa: E402
 
-NAME = "solve_cli"
-# what the help doesn't say of the statuses that all commands have in common, in the order of their numbers
+# the words that may come first behind a command
+KINDS_OF = {"zarfepoch": KINDS, "zarfepoch-generate": KINDS}
+# what the program's help doesn't say of the statuses that all commands have in common, in the order of their numbers
 STATUSES = {
     "0": "a cover, or the answer is right", "1": "there is none, or the answer is wrong", "2": "a mistake on the command line",
     "3": "the file was refused, or a device failed", "4": "no answer, or no reason found", "5": "out of memory",
@@ -38,65 +44,11 @@ EXAMPLES = {
     "solve_cli solve --nodes 1 --workers 4 school.dlx > plan": "searches with four threads",
     "solve_cli check school.dlx plan": "tests what that wrote",
     "printf 'a b c\\na b\\nc\\nb c\\n' | solve_cli answer -": "reads a problem of three options from standard input"}
+# the pages of a command by their names
+Pages = dict[str, str]
 
 
-@dataclass
-class Option:
-    """An option: its names, with `--long` last, the name of its value if it takes one, and what it is for."""
-    names: list[str]
-    value: str
-    text: str
-
-
-@dataclass
-class Help:
-    """What the help of a command says."""
-    about: str = ""
-    usage: str = ""
-    commands: dict[str, str] = field(default_factory=dict)
-    arguments: dict[str, str] = field(default_factory=dict)
-    options: list[Option] = field(default_factory=list)
-    tail: list[str] = field(default_factory=list)
-
-
-def printed(words: list[str]) -> str:
-    """What the program prints for these words and `--help`."""
-    ran = subprocess.run([SOLVE_CLI, *words, "--help"], capture_output=True, text=True)
-    if ran.returncode != 0:
-        stop(f"the program's help ends with status {ran.returncode}")
-    return ran.stdout
-
-
-def option_of(line: str) -> Option:
-    """The option that a line of help shows."""
-    shown, _, text = re.sub(r"\s{2,}", "\n", line.strip(), count=1).partition("\n")
-    names = re.findall(r"--?[A-Za-z][A-Za-z-]*", shown)
-    value = re.search(r"<(.*?)>", shown)
-    return Option(names, value[1] if value else "", text)
-
-
-def read_help(words: list[str]) -> Help:
-    """The help of a command, read paragraph by paragraph."""
-    help = Help()
-    for number, paragraph in enumerate(printed(words).strip().split("\n\n")):
-        head, *lines = paragraph.splitlines()
-        rows = {name: text.strip() for name, _, text in (line.strip().partition(" ") for line in lines if line.strip())}
-        if head.startswith("Usage: "):
-            help.usage = head.removeprefix("Usage: ")
-        elif head == "Commands:":
-            help.commands = {name: text for name, text in rows.items() if name != "help"}
-        elif head == "Arguments:":
-            help.arguments = {name.strip("<>"): text for name, text in rows.items()}
-        elif head == "Options:":
-            help.options = [option_of(line) for line in lines]
-        elif number == 0:
-            help.about = paragraph
-        else:
-            help.tail.append(paragraph)
-    if not help.usage or not help.options:
-        stop(f"the help of {' '.join([NAME, *words])} has no usage or no options")
-    return help
-
+# ---- what both have
 
 def quoted(text: str) -> str:
     """Text as troff takes it."""
@@ -104,25 +56,40 @@ def quoted(text: str) -> str:
     return "\\&" + text if text[:1] in (".", "'") else text
 
 
-def man_rows(help: Help) -> list[str]:
-    """The arguments and options of a command, as troff."""
-    rows = [f".TP\n.I {quoted(name)}\n{quoted(text)}" for name, text in help.arguments.items()]
-    for option in help.options:
-        names = ", ".join(f"\\fB{quoted(name)}\\fR" for name in option.names)
-        value = f" \\fI{quoted(option.value)}\\fR" if option.value else ""
-        rows.append(f".TP\n{names}{value}\n{quoted(option.text)}")
+def man_head(name: str, version: str, about: str) -> list[str]:
+    """The first lines of a man page, up to how the command is called."""
+    return [f'.TH {name.upper()} 1 "" "{version}" "User Commands"', ".SH NAME", f"{quoted(name)} \\- {quoted(about)}", ".SH SYNOPSIS"]
+
+
+def man_rows(help: Help, between: str) -> list[str]:
+    """The arguments and options of a command, as troff, with this between two names of an option."""
+    rows = [f".TP\n.I {quoted(' '.join(row.names))}\n{quoted(row.text)}" for row in help.arguments]
+    for row in help.options:
+        value = f" \\fI{quoted(row.value)}\\fR" if row.value else ""
+        rows.append(f".TP\n\\fB{between.join(map(quoted, row.names))}\\fR{value}\n{quoted(row.text)}")
     return rows
 
 
-def man_page(top: Help, commands: dict[str, Help]) -> str:
-    """The man page."""
+def zsh_rows(help: Help, action: str) -> list[str]:
+    """The options of a command as `_arguments` of zsh takes them; this completes their values."""
+    rows = []
+    for row in help.options:
+        text = re.sub(r"([\[\]:])", r"\\\1", row.text).replace("'", "'\\''")
+        rows += [f"'{name}[{text}]{f':{row.value}:{action}' if row.value else ''}'" for name in row.names]
+    return rows
+
+
+# ---- the program
+
+def program_man(top: Help, commands: dict[str, Help]) -> str:
+    """The program's man page."""
     version = subprocess.run([SOLVE_CLI, "--version"], capture_output=True, text=True).stdout.split()[-1]
-    lines = [f'.TH {NAME.upper()} 1 "" "{NAME} {version}" "User Commands"', ".SH NAME", f"{NAME} \\- {quoted(top.about)}", ".SH SYNOPSIS"]
+    lines = man_head(PROGRAM, f"{PROGRAM} {version}", top.about)
     lines += [f".B {quoted(help.usage)}\n.br" for help in commands.values()]
-    lines += [".SH DESCRIPTION", quoted(top.about) + ".", *man_rows(Help(options=top.options))]
+    lines += [".SH DESCRIPTION", quoted(top.about) + ".", *man_rows(Help(options=top.options), "\\fR, \\fB")]
     for name, help in commands.items():
-        lines += [f".SH {name.upper()}", quoted(help.about) + ".", *man_rows(help)]
-        lines += [f".PP\n{quoted(paragraph)}" for paragraph in help.tail]
+        lines += [f".SH {name.upper()}", quoted(help.about) + ".", *man_rows(help, "\\fR, \\fB")]
+        lines += [f".PP\n{quoted(paragraph)}" for paragraph in help.text]
     lines += [".SH EXIT STATUS", *(f".TP\n.B {status}\n{quoted(text)}" for status, text in STATUSES.items())]
     lines += [".SH FILE FORMAT", *(f".PP\n{quoted(paragraph)}" for paragraph in FORMAT)]
     lines += [".SH EXAMPLES", *(f".TP\n.B {quoted(words)}\n{quoted(text)}" for words, text in EXAMPLES.items())]
@@ -130,11 +97,11 @@ def man_page(top: Help, commands: dict[str, Help]) -> str:
     return "\n".join(lines) + "\n"
 
 
-def bash_completion(top: Help, commands: dict[str, Help]) -> str:
-    """The completion for bash: subcommands first, then options, and files in every place of an argument."""
+def program_bash(top: Help, commands: dict[str, Help]) -> str:
+    """The program's completion for bash: subcommands first, then options, and files in every place of an argument."""
     cases = "\n".join(f'        {name}) options="{" ".join(longs(help))}" ;;' for name, help in commands.items())
-    valued = "|".join(sorted({name for help in commands.values() for option in help.options if option.value for name in option.names}))
-    return f"""_{NAME}() {{
+    valued = "|".join(sorted({name for help in commands.values() for row in help.options if row.value for name in row.names}))
+    return f"""_{PROGRAM}() {{
     local word="${{COMP_WORDS[COMP_CWORD]}}" before="${{COMP_WORDS[COMP_CWORD - 1]}}" options=""
     if [ "$COMP_CWORD" -eq 1 ]; then
         COMPREPLY=($(compgen -W "{' '.join([*commands, *longs(top)])}" -- "$word"))
@@ -150,32 +117,20 @@ def bash_completion(top: Help, commands: dict[str, Help]) -> str:
         *) mapfile -t COMPREPLY < <(compgen -f -- "$word") ;;
     esac
 }}
-complete -o filenames -F _{NAME} {NAME}
+complete -o filenames -F _{PROGRAM} {PROGRAM}
 """
 
 
-def longs(help: Help) -> list[str]:
-    """The options of a command, by their long names."""
-    return [option.names[-1] for option in help.options]
-
-
-def zsh_row(option: Option) -> str:
-    """An option as `_arguments` of zsh takes it."""
-    text = re.sub(r"([\[\]:'])", r"\\\1", option.text).replace("\\'", "'\\''")
-    value = f":{option.value}:" if option.value else ""
-    return "\n".join(f"                '{name}[{text}]{value}' \\" for name in option.names)
-
-
-def zsh_completion(top: Help, commands: dict[str, Help]) -> str:
-    """The completion for zsh."""
+def program_zsh(commands: dict[str, Help]) -> str:
+    """The program's completion for zsh."""
     named = " ".join(f"'{name}:{help.about.replace(chr(39), chr(39) + chr(92) + chr(39) + chr(39))}'" for name, help in commands.items())
     cases = ""
     for name, help in commands.items():
-        rows = "\n".join(zsh_row(option) for option in help.options)
-        files = " ".join(f"'{place}:{argument}:_files'" for place, argument in enumerate(help.arguments, 1))
+        rows = "\n".join(f"                {row} \\" for row in zsh_rows(help, ""))
+        files = " ".join(f"'{place}:{row.names[0]}:_files'" for place, row in enumerate(help.arguments, 1))
         cases += f"        {name})\n            _arguments -s \\\n{rows}\n                {files} ;;\n"
-    return f"""#compdef {NAME}
-_{NAME}() {{
+    return f"""#compdef {PROGRAM}
+_{PROGRAM}() {{
     local context state line
     _arguments -C '1: :->command' '*:: :->argument'
     case $state in
@@ -185,23 +140,109 @@ _{NAME}() {{
 {cases}        esac ;;
     esac
 }}
-_{NAME} "$@"
+_{PROGRAM} "$@"
 """
+
+
+def program_pages() -> Pages:
+    """The man page and the completions of the program."""
+    top = program_help([])
+    commands = {name: program_help([name]) for name in top.commands}
+    return {f"{PROGRAM}.1": program_man(top, commands), f"{PROGRAM}.bash": program_bash(top, commands), f"_{PROGRAM}": program_zsh(commands)}
+
+
+# ---- the commands of the package
+
+def paragraphs(lines: list[str]) -> list[str]:
+    """The text of a help as troff: lines that are indented stay as they are."""
+    found: list[str] = []
+    for block in "\n".join(lines).strip("\n").split("\n\n"):
+        rows = block.split("\n")
+        is_kept = any(row.startswith("    ") for row in rows)
+        found += [".PP", *([".nf"] if is_kept else []), *map(quoted, rows), *([".fi"] if is_kept else [])]
+    return found
+
+
+def command_man(name: str, help: Help) -> str:
+    """The man page of a command."""
+    lines = [*man_head(name, f"zarfepoch {zarfepoch.__version__}", help.about), f".B {quoted(help.usage)}"]
+    lines += [".SH DESCRIPTION", *paragraphs(help.text), ".SH OPTIONS", *man_rows(help, ", ")]
+    return "\n".join([*lines, ".SH SEE ALSO", ".BR solve_cli (1)"]) + "\n"
+
+
+def command_bash(name: str, help: Help, kinds: dict[str, Help]) -> str:
+    """The completion for bash: the first word of a command that has kinds, then options, and files in every other place."""
+    function = "_" + name.replace("-", "_")
+    first = f"""    if [ "$COMP_CWORD" -eq 1 ]; then
+        mapfile -t COMPREPLY < <(compgen -W "{' '.join([*kinds, *longs(help)])}" -- "$word")
+        return
+    fi
+""" if kinds else ""
+    cases = "".join(f'        {kind}) options="{" ".join(longs(own))}" ;;\n' for kind, own in kinds.items())
+    chosen = f'    case "${{COMP_WORDS[1]}}" in\n{cases}    esac\n' if kinds else ""
+    return f"""{function}() {{
+    local word="${{COMP_WORDS[COMP_CWORD]}}" options="{' '.join(longs(help))}"
+{first}{chosen}    case "$word" in
+        -*) mapfile -t COMPREPLY < <(compgen -W "$options" -- "$word") ;;
+        *) mapfile -t COMPREPLY < <(compgen -f -- "$word") ;;
+    esac
+}}
+complete -o filenames -F {function} {name}
+"""
+
+
+def zsh_arguments(help: Help) -> str:
+    """What `_arguments` of zsh takes: the options of a command, and files in every other place."""
+    return " \\\n        ".join([*zsh_rows(help, "_files"), "'*:file:_files'"])
+
+
+def command_zsh(name: str, help: Help, kinds: dict[str, Help]) -> str:
+    """The completion for zsh."""
+    function = "_" + name
+    if not kinds:
+        return f"#compdef {name}\n{function}() {{\n    _arguments -s \\\n        {zsh_arguments(help)}\n}}\n{function} \"$@\"\n"
+    cases = "".join(f"        {kind}) _arguments -s \\\n        {zsh_arguments(own)} ;;\n" for kind, own in kinds.items())
+    return f"""#compdef {name}
+{function}() {{
+    local state line
+    _arguments -C '1: :->kind' '*:: :->rest'
+    case $state in
+        kind) local kinds=({' '.join(kinds)}); _describe kind kinds ;;
+        rest) case $line[1] in
+{cases}        esac ;;
+    esac
+}}
+{function} "$@"
+"""
+
+
+def command_pages(name: str) -> Pages:
+    """The man page and the completions of a command."""
+    help = command_help(name, [])
+    kinds = {kind: command_help(name, [kind]) for kind in KINDS_OF.get(name, ())}
+    return {f"{name}.1": command_man(name, help), f"{name}.bash": command_bash(name, help, kinds), f"_{name}": command_zsh(name, help, kinds)}
+
+
+def all_pages(of_program: bool) -> Iterator[Pages]:
+    """The pages of all commands, those of the program first."""
+    if of_program:
+        yield program_pages()
+    yield from map(command_pages, COMMANDS)
 
 
 def main() -> None:
     words = parser_of(__doc__)
+    words.add_argument("--package", action="store_true", help="the package's commands alone, which want no program")
     words.add_argument("folder", metavar="FOLDER")
-    folder = words.parse_args().folder
-    want_program(SOLVE_CLI)
-    top = read_help([])
-    commands = {name: read_help([name]) for name in top.commands}
-    pages = {f"{NAME}.1": man_page(top, commands), f"{NAME}.bash": bash_completion(top, commands), f"_{NAME}": zsh_completion(top, commands)}
+    given = words.parse_args()
+    if not given.package:
+        want_program(SOLVE_CLI)
     try:
-        os.makedirs(folder, exist_ok=True)
-        for name, text in pages.items():
-            with open(os.path.join(folder, name), "w", encoding="utf-8") as file:
-                file.write(text)
+        os.makedirs(given.folder, exist_ok=True)
+        for pages in all_pages(not given.package):
+            for name, text in pages.items():
+                with open(os.path.join(given.folder, name), "w", encoding="utf-8") as file:
+                    file.write(text)
     except OSError as error:
         stop(f"{error.filename}: {error.strerror}")
 

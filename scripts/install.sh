@@ -37,11 +37,15 @@ man=share/man/man1
 bash=share/bash-completion/completions
 zsh=share/zsh/site-functions
 share=share/zarfepoch
-commands="zarfepoch zarfepoch-another zarfepoch-check-certificate zarfepoch-check-reason zarfepoch-draw zarfepoch-explain zarfepoch-generate
-zarfepoch-join zarfepoch-split zarfepoch-why-none"
+
+# The commands of the package by their names.
+commands() {
+    PYTHONPATH=$top/python/src python3 -c "from zarfepoch.commands import COMMANDS; print(*COMMANDS)"
+}
 
 if [ "$remove" ]; then
     files="$share/VERSION"
+    commands=$(commands)
     for name in solve_cli $commands; do
         files="$files bin/$name $man/$name.1 $bash/$name $zsh/_$name"
     done
@@ -65,7 +69,7 @@ fi
 
 if [ ! -x "$program" ]; then
     echo "install.sh: the program isn't built; at the top of the repository this builds it:" >&2
-    echo "    (cd crates/solve_cli && rt run -- alone data/letters.dlx)" >&2
+    echo "    scripts/build.sh" >&2
     exit 2
 fi
 
@@ -88,7 +92,7 @@ pages=$(mktemp -d)
 trap 'rm -rf "$pages"' EXIT
 trap 'exit 1' HUP INT TERM
 python3 "$top/dev/help_pages.py" "$pages"
-python3 "$top/dev/command_pages.py" "$pages"
+commands=$(commands)
 {
     "$program" --version
     echo "commit $(commit)"

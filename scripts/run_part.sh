@@ -6,8 +6,9 @@
 # The WORDs are the program's words before the file, `answer --threads 2` where there are none: a search, a reason and learning, on two processors.
 # `alone --unlimited`, for one, and `solve --nodes 1 --workers 4` are others.
 # A part with an answer isn't searched again. The answer is written under another name first, so that a search that is stopped leaves none, nor half
-# of one. The program is what ZARFEPOCH names, else solve_cli on the path, else what was built in this clone. The exit status is the program's,
-# 0 for a cover and 1 for none, if need be that of the answer that is there; 2 for a mistake on the command line; 3 where a file can't be written.
+# of one. The program is what ZARFEPOCH names, else solve_cli on the path, else what was built in this clone, with proofs or, if there is no other,
+# without. The exit status is the program's, 0 for a cover and 1 for none, if need be that of the answer that is there; 2 for a mistake on the command
+# line; 3 where a file can't be written.
 set -u
 unset CDPATH
 
@@ -33,7 +34,10 @@ none) exit 1 ;;
 esac
 
 here=$(cd "$(dirname "$0")" && pwd)
-program=${ZARFEPOCH:-$(command -v solve_cli || echo "$here/../crates/solve_cli/out/solve_cli")}
+# (the places of python/src/zarfepoch/programs.py, which isn't there where this script is sent to another machine)
+built=$here/../crates/solve_cli/out/solve_cli
+[ -x "$built" ] || [ ! -x "$here/../unproved/solve_cli" ] || built=$here/../unproved/solve_cli
+program=${ZARFEPOCH:-$(command -v solve_cli || echo "$built")}
 [ -f "$program" ] && [ -x "$program" ] || fail 2 "there is no program $program"
 
 search=

@@ -38,17 +38,11 @@ if [ -z "$tester" ]; then
     exit 2
 fi
 
-# The words of a script's short form; none where it takes seconds anyway.
+# The word of a script's short form, which those have that would take minutes: the words that it may get are told at its top.
 short_form() {
-    case "$1" in
-    try_audit.py) echo --changes 20 --runs 1 ;;
-    try_bugs.py | try_found.py | try_memory.py | try_shortage.py) echo --short ;;
-    try_search.py) echo 100 ;;
-    try_states.py) echo --problems 4000 ;;
-    try_simulate.py) echo 1 ;;
-    try_solve.py) echo --times 1 --audit ;;
-    try_strangers.py) echo --times 1 ;;
-    esac
+    if grep -q '^    python3 trials/.*--short' "$1"; then
+        echo --short
+    fi
 }
 
 # Runs a trial by its words. What it says, and how long it took, is printed whole once it has ended; its name is noted where it fails.
@@ -91,9 +85,9 @@ for path in $long python/tests/test_*.py trials/try_*.py; do
     name=$(basename "$path")
     [ -e "$room/$name.said" ] && continue
     : > "$room/$name.said"
-    # (the words are several)
+    # (one word or none)
     # shellcheck disable=SC2046
-    begin "$path" $(short_form "$name")
+    begin "$path" $(short_form "$path")
 done
 begin mypy
 begin dev/check_pages.py

@@ -6,6 +6,7 @@ from __future__ import annotations
 
 import os
 import shutil
+import subprocess
 import sys
 
 TOP = os.path.dirname(os.path.dirname(os.path.abspath(__file__)))
@@ -32,6 +33,12 @@ def want_program(program: str, crate: str = "solve_cli") -> None:
     if not (os.path.isfile(program) and os.access(program, os.X_OK)):
         words = " -- --version" if crate == "solve_cli" else ""
         stop(f"there is no program {os.path.relpath(program)}; at the top of the repository (cd crates/{crate} && rt run{words}) builds it")
+
+
+def is_right(file: str, answer: str, program: str = SOLVE_CLI) -> bool:
+    """Whether `check` calls the text of an answer right."""
+    checked = subprocess.run([program, "check", file, "-"], input=answer, capture_output=True, text=True)
+    return checked.returncode == 0 and checked.stdout == "right\n"
 
 
 def want_command(name: str) -> None:

@@ -5,6 +5,7 @@ import concurrent.futures
 import os
 import re
 import subprocess
+from typing import Optional
 
 from built import number_from_one, parser_of, program_of, stop, want_program
 
@@ -18,13 +19,15 @@ def counts_of(command: list[str], seed: int, problems: int, names: list[str]) ->
     return numbers
 
 
-def counted(command: list[str], doc: str, problems: int, at_once: int, names: list[str]) -> dict[str, int]:
-    """The sums of what a command counts, by name, over as many problems as the command line asks for, or else so many. Its first word is a
-    crate that is a program.
+def counted(command: list[str], doc: str, problems: int, at_once: int, names: list[str], short: Optional[int] = None) -> dict[str, int]:
+    """The sums of what a command counts, by name, over as many problems as the command line asks for, or else so many; with --short so
+    few, where there is such a word. The command's first word is a crate that is a program.
 
     Each process draws so many at once; as many run side by side as there are processors.
     """
     words = parser_of(doc)
+    if short:
+        words.add_argument("--short", dest="problems", action="store_const", const=short, default=problems, help=f"{short} problems")
     words.add_argument("--problems", metavar="N", type=number_from_one, default=problems, help=f"how many problems (default {problems})")
     words.add_argument("--seed", metavar="N", type=number_from_one, default=1, help="of the first process (default 1)")
     given, program = words.parse_args(), program_of(command[0])

@@ -1,7 +1,7 @@
 #!/usr/bin/env python3
 """Audits the books of real runs, as they are and with one entry changed at random, and compares the audit with one of its own.
 
-    python3 trials/try_audit.py [--changes N] [--runs N] [--seed N] [--program PATH] [FILE ..]
+    python3 trials/try_audit.py [--short] [--changes N] [--runs N] [--seed N] [--program PATH] [FILE ..]
 
 Of each file, so many runs are made by `workbench audits`, which prints the books of all sites, and so many times the book of one site
 in which one entry was changed: an event left out, repeated, or put behind the next one, a packet with another bit, or the packet of
@@ -152,12 +152,15 @@ def try_run(given: argparse.Namespace, file: str, seed: int, table: Table) -> bo
 
 def main() -> None:
     parser = parser_of(__doc__)
-    parser.add_argument("--changes", type=number_from_one, default=100, help="how many changes are tried in each run (default 100)")
-    parser.add_argument("--runs", type=number_from_one, default=2, help="how many runs of each file (default 2)")
+    parser.add_argument("--short", action="store_true", help="fewer runs and changes")
+    parser.add_argument("--changes", type=number_from_one, help="how many changes are tried in each run (default 100; 20 with --short)")
+    parser.add_argument("--runs", type=number_from_one, help="how many runs of each file (default 2; 1 with --short)")
     parser.add_argument("--seed", type=int, default=1, help="the seed of the first run (default 1)")
     parser.add_argument("--program", default=WORKBENCH, help="the program, in place of the built one")
     parser.add_argument("files", metavar="FILE", nargs="*", help="problems (default: five examples)")
     given = parser.parse_args()
+    given.changes = given.changes or (20 if given.short else 100)
+    given.runs = given.runs or (1 if given.short else 2)
     want_program(given.program, "workbench")
     files = given.files or [os.path.join(TOP, "examples", f"{name}.dlx") for name in FILES]
     table: Table = collections.defaultdict(collections.Counter)

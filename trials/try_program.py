@@ -27,6 +27,7 @@ from typing import IO, Any, Callable, NamedTuple, Optional, Union
 from built import parser_of, SOLVE_CLI, TOP, want_command, want_program
 from expected import Trial
 import zarfepoch
+from zarfepoch import commands
 
 PROGRAM = SOLVE_CLI
 # what runs the commands of the package from a clone
@@ -41,9 +42,8 @@ SPENT = b"ended: the fuel is spent: try more --fuel, or --unlimited\n"
 # the header of a packet: magic, version, kind, the sender's node and incarnation, and the receiver's
 HEADER = struct.Struct(">2sBBBIBI")
 STEAL = 3
-# the commands of the package that install.sh installs, and all that it writes
-TOOLS = ("another", "check-certificate", "check-reason", "draw", "explain", "generate", "join", "split", "why-none")
-COMMANDS = ("solve_cli", "zarfepoch", *(f"zarfepoch-{tool}" for tool in TOOLS))
+# the commands that install.sh installs, and all that it writes
+COMMANDS = ("solve_cli", *commands.COMMANDS)
 INSTALLED = ("share/zarfepoch/VERSION", *(path for name in COMMANDS for path in (
     f"bin/{name}", f"share/man/man1/{name}.1", f"share/bash-completion/completions/{name}", f"share/zsh/site-functions/_{name}")),
              "share/zarfepoch/zarfepoch")

@@ -1,9 +1,9 @@
 #!/usr/bin/env python3
 """Runs the program `alone` on random problems with colours, and compares it with the plain search of `plain_search.py`.
 
-    python3 trials/try_search.py [COUNT]
+    python3 trials/try_search.py [--short] [COUNT]
 
-For each of so many problems (default 600) the answer has to be the plain search's first cover, or that there is none. With as much
+For each of so many problems (default 600; 100 with --short) the answer has to be the plain search's first cover, or that there is none. With as much
 fuel as the plain search has visits it has to be the same, and with one less `no answer`. It wants the program:
 (cd crates/solve_cli && rt run -- --version) builds it. The last line counts the problems, by outcome; the exit status is 0, 1 where a problem
 differs, or 2 for a mistake on the command line or where the program is missing.
@@ -60,8 +60,10 @@ def agrees(path: str, text: str) -> tuple[bool, bool]:
 
 def main() -> int:
     parser = parser_of(__doc__)
-    parser.add_argument("count", metavar="COUNT", type=number_from_one, nargs="?", default=600, help="how many problems (default 600)")
-    count = parser.parse_args().count
+    parser.add_argument("count", metavar="COUNT", type=number_from_one, nargs="?", help="how many problems (default 600; 100 with --short)")
+    parser.add_argument("--short", action="store_true", help="fewer problems")
+    given = parser.parse_args()
+    count = given.count or (100 if given.short else 600)
     want_program(SOLVE_CLI)
     draw = random.Random(7221)
     results = []

@@ -39,6 +39,8 @@ from collections.abc import Mapping, Sequence
 from typing import NamedTuple, Optional
 
 from built import SOLVE_CLI, TOP, number_from_one, parser_of, want_command, want_program
+from zarfepoch import puzzles
+from zarfepoch.puzzle_texts import Puzzle
 
 LETTERS = "a b c d e f g\nc e\na d g\nb c f\na d f\nb g\nd e g\n"
 ANSWER = "cover 3\nc e\na d f\nb g\n"
@@ -175,10 +177,8 @@ def certificates(trial: Trial, mode: str, words: Sequence[str], count: int) -> N
 def langford(folder: str, pairs: int) -> str:
     """A file of so many Langford pairs."""
     path = os.path.join(folder, f"langford-{pairs}.dlx")
-    with open(path, "w", encoding="ascii") as file:
-        print(*range(1, pairs + 1), *(f"s{place}" for place in range(1, 2 * pairs + 1)), file=file)
-        for pair in range(1, pairs + 1):
-            print(*(f"{pair} s{place} s{place + pair + 1}" for place in range(1, 2 * pairs - pair)), sep="\n", file=file)
+    with open(path, "wb") as file:
+        file.write(Puzzle(*puzzles.langford(pairs)).text())
     return path
 
 

@@ -1,7 +1,7 @@
 #!/usr/bin/env python3
 """Runs `solve` on two small problems and on every example, or on the files that are named.
 
-    python3 trials/try_solve.py [--times N] [--nodes N] [--workers N] [--fuel N] [--limit SECONDS] [--audit] [FILE ..]
+    python3 trials/try_solve.py [--short] [--times N] [--nodes N] [--workers N] [--fuel N] [--limit SECONDS] [--audit] [FILE ..]
 
 Each problem is solved so many times by nodes with threads of their own. Every answer is given to `check`, which has to call it
 right, and of the two small problems the answer's text is known. With no turns at all there has to be no answer. A table tells,
@@ -28,7 +28,7 @@ import time
 from collections.abc import Sequence
 from typing import Optional
 
-from built import number_from_one, parser_of, SOLVE_CLI, TOP, want_program
+from built import is_right, number_from_one, parser_of, SOLVE_CLI, TOP, want_program
 
 LETTERS = "a b c d e f g\nc e\na d g\nb c f\na d f\nb g\nd e g\n"
 SMALL = [
@@ -46,28 +46,25 @@ Seen = tuple[float, bool, bool]
 
 def words() -> argparse.Namespace:
     parser = parser_of(__doc__)
-    parser.add_argument("--times", type=number_from_one, default=20, help="how often each problem is solved (default 20)")
+    parser.add_argument("--short", action="store_true", help="once, and with --audit")
+    parser.add_argument("--times", type=number_from_one, help="how often each problem is solved (default 20; 1 with --short)")
     parser.add_argument("--nodes", default="4", help="how many nodes there are (default 4)")
     parser.add_argument("--workers", default="2", help="how many workers a node has (default 2)")
     parser.add_argument("--fuel", default="1000", help="how many prefixes a search may visit at first (default 1000)")
     parser.add_argument("--limit", type=float, default=120, help="after how many seconds a run is given up (default 120)")
     parser.add_argument("--audit", action="store_true", help="audit each run")
     parser.add_argument("files", nargs="*", metavar="FILE", help="the files, in place of the small problems and all of examples/")
-    return parser.parse_args()
+    given = parser.parse_args()
+    given.times = given.times or (1 if given.short else 20)
+    given.audit = given.audit or given.short
+    return given
 
 
-def output(words: list[str], limit: Optional[float]) -> Optional[subprocess.CompletedProcess[str]]:
+def output(words: list[str], limit: float) -> Optional[subprocess.CompletedProcess[str]]:
     try:
         return subprocess.run(words, capture_output=True, text=True, timeout=limit)
     except subprocess.TimeoutExpired:
         return None
-
-
-def is_right(file: str, text: str, answer_file: str) -> bool:
-    with open(answer_file, "w") as answer:
-        answer.write(text)
-    checked = output([SOLVE_CLI, "check", file, answer_file], None)
-    return checked is not None and checked.returncode == 0 and checked.stdout == "right\n"
 
 
 def audit_option(given: argparse.Namespace) -> list[str]:
@@ -82,7 +79,7 @@ def answer_of(run: subprocess.CompletedProcess[str], given: argparse.Namespace) 
     return answer if clean and not rest else None
 
 
-def solved(file: str, seed: int, given: argparse.Namespace, expected: Optional[str], answer_file: str, more: Sequence[str]) -> Seen:
+def solved(file: str, seed: int, given: argparse.Namespace, expected: Optional[str], more: Sequence[str]) -> Seen:
     """The time, whether there was an answer, and whether the run was wrong; with these options more."""
     options = ["--seed", str(seed), "--nodes", given.nodes, "--workers", given.workers, "--fuel", given.fuel]
     begun = time.monotonic()
@@ -94,13 +91,13 @@ def solved(file: str, seed: int, given: argparse.Namespace, expected: Optional[s
     if run.returncode == 4:
         return seconds, False, answer != "no answer\n"
     known = expected is None or answer == expected
-    wrong = answer is None or run.returncode not in (0, 1) or not known or not is_right(file, answer, answer_file)
+    wrong = answer is None or run.returncode not in (0, 1) or not known or not is_right(file, answer)
     return seconds, True, wrong
 
 
-def tell(name: str, file: str, given: argparse.Namespace, expected: Optional[str], answer_file: str, more: Sequence[str] = ()) -> int:
+def tell(name: str, file: str, given: argparse.Namespace, expected: Optional[str], more: Sequence[str] = ()) -> int:
     """Tells of one problem's runs, and answers how many were wrong."""
-    runs = [solved(file, seed, given, expected, answer_file, more) for seed in range(1, given.times + 1)]
+    runs = [solved(file, seed, given, expected, more) for seed in range(1, given.times + 1)]
     times = [seconds for seconds, _, _ in runs]
     answered = sum(answer for _, answer, _ in runs)
     wrong = sum(bad for _, _, bad in runs)
@@ -131,13 +128,13 @@ def problems(given: argparse.Namespace, folder: str) -> list[Row]:
     return found + [(os.path.basename(file), file, None) for file in examples]
 
 
-def tell_restarted(given: argparse.Namespace, found: list[Row], answer_file: str) -> int:
+def tell_restarted(given: argparse.Namespace, found: list[Row]) -> int:
     """Tells of runs in which the first node restarts, and answers how many were wrong."""
     wrong = 0
     for name, file, expected in found:
         for restarts in RESTARTS:
             more = ["--restarts", restarts, "--turns", FEW_TURNS]
-            wrong += tell(f"{name}, {restarts} restarts", file, given, expected, answer_file, more)
+            wrong += tell(f"{name}, {restarts} restarts", file, given, expected, more)
     return wrong
 
 
@@ -148,16 +145,15 @@ def main() -> None:
     print("| Problem | Runs | Answered | Wrong | Least | Middle | Greatest |")
     print("|---|---|---|---|---|---|---|")
     with tempfile.TemporaryDirectory() as folder:
-        answer_file = os.path.join(folder, "answer")
         found = problems(given, folder)
         for name, file, expected in found:
-            wrong += tell(name, file, given, expected, answer_file)
+            wrong += tell(name, file, given, expected)
             if not says_nothing_without_turns(file, given):
                 print(f"wrong: {name} with no turns")
                 wrong += 1
         if not given.files:
             few = [row for row in found if row[2] or row[0] in RESTARTED]
-            wrong += tell_restarted(given, few, answer_file)
+            wrong += tell_restarted(given, few)
     sys.exit(1 if wrong else 0)
 
 

@@ -1,7 +1,7 @@
 #!/usr/bin/env python3
 """Attacks a running `solve` from sockets that are none of its own, and says whether its answers stay right: a run hears only what carries its key.
 
-    python3 trials/try_strangers.py [--times N] [--limit SECONDS] [--length SECONDS] [--program PATH] [--problem FILE] [--only NAME] [--audit]
+    python3 trials/try_strangers.py [--short] [--times N] [--limit SECONDS] [--length SECONDS] [--program PATH] [--problem FILE] [--only NAME] [--audit]
 
 The ports of a run are in /proc/net/udp, which every process of the machine may read. To each of them each attack sends its packets, well
 formed and with the names that sites of a run have, for a second from the run's begin, or until its end: that a node asks for work and found
@@ -328,7 +328,8 @@ def trial(given: argparse.Namespace, name: Optional[str], answer_file: str) -> b
 
 def main() -> None:
     parser = parser_of(__doc__)
-    parser.add_argument("--times", type=number_from_one, default=20, help="how often each attack is tried (default 20)")
+    parser.add_argument("--short", action="store_true", help="once")
+    parser.add_argument("--times", type=number_from_one, help="how often each attack is tried (default 20; 1 with --short)")
     parser.add_argument("--limit", type=float, default=20, help="after how many seconds a run is given up (default 20)")
     parser.add_argument("--length", type=float, default=1, help="for how many seconds a run is attacked (default 1)")
     parser.add_argument("--program", type=path_of, default=SOLVE_CLI, help="the program, in place of the built one")
@@ -337,6 +338,7 @@ def main() -> None:
     parser.add_argument("--inside", action="store_true", help=argparse.SUPPRESS)
     parser.add_argument("--audit", action="store_true", help="audit each run")
     given = parser.parse_args()
+    given.times = given.times or (1 if given.short else 20)
     want_program(given.program)
     if given.inside:
         narrow()

@@ -208,9 +208,7 @@ WRITTEN = sorted(name for name in os.listdir(EXAMPLES) if name.endswith(".dlx") 
 def written_examples(tmp_path_factory: pytest.TempPathFactory) -> str:
     """A folder with the examples as generate.py writes them."""
     folder = str(tmp_path_factory.mktemp("examples"))
-    with pytest.MonkeyPatch.context() as patch:
-        patch.setattr(generate, "HERE", folder)
-        generate.examples()
+    generate.write_examples(folder)
     return folder
 
 

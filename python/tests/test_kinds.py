@@ -368,7 +368,7 @@ def test_windows_and_colours(trial: Solving) -> None:
 
 def command_pages(folder: str) -> tuple[int, list[str], str]:
     """What the script says that writes the pages."""
-    ended = subprocess.run([sys.executable, os.path.join(TOP, "dev", "command_pages.py"), folder], capture_output=True, text=True)
+    ended = subprocess.run([sys.executable, os.path.join(TOP, "dev", "help_pages.py"), "--package", folder], capture_output=True, text=True)
     return ended.returncode, ended.stdout.splitlines(), ended.stderr
 
 

@@ -10,6 +10,7 @@ import itertools
 import os
 import pathlib
 import random
+import re
 import stat
 import subprocess
 import sys
@@ -27,6 +28,7 @@ from processes import children_called, long_search
 import zarfepoch
 from zarfepoch import Clique, Colored, Problem, Reason
 from zarfepoch.all_covers import Covers, Question
+from zarfepoch.commands import COMMANDS
 from zarfepoch.cover_files import read_problem
 from zarfepoch.problems import Asked
 from zarfepoch.search_parts import Prefix, Tree
@@ -59,6 +61,13 @@ def top(monkeypatch: pytest.MonkeyPatch) -> None:
 def test_examples_of_the_package() -> None:
     found = doctest.testmod(zarfepoch)
     assert found.attempted > 5 and not found.failed, f"the examples: {found}"
+
+
+def test_commands_of_pip() -> None:
+    """What pip puts on the path are the commands that are listed, each by the name of its module."""
+    with open(os.path.join(TOP, "python", "pyproject.toml"), encoding="utf-8") as opened:
+        named = dict(re.findall(r'^(zarfepoch[a-z-]*) = "zarfepoch\.commands:(\w+)"$', opened.read(), re.MULTILINE))
+    assert named == {name: "zarfepoch" if module == "__main__" else module for name, module in COMMANDS.items()}
 
 
 def test_examples_of_the_page() -> None:

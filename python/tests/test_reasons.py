@@ -21,7 +21,7 @@ import pytest
 
 from built import TOP
 from plain_search import read, search
-from zarfepoch import check_reason
+from zarfepoch import check_reason, puzzles
 from zarfepoch.cover_files import read_problem
 from zarfepoch.cover_reason import Reason
 
@@ -132,8 +132,7 @@ def board(size: int) -> str:
 
 
 def langford(size: int) -> str:
-    options = [[str(d), f"s{at}", f"s{at + d + 1}"] for d in range(1, size + 1) for at in range(1, 2 * size - d)]
-    return lines([*map(str, range(1, size + 1)), *(f"s{at}" for at in range(1, 2 * size + 1))], [], options)
+    return lines(*puzzles.langford(size))
 
 
 def triples(points: int) -> str:

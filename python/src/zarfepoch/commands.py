@@ -1,5 +1,6 @@
 """The commands that pip and scripts/install.sh put on the path, each the main function of a module of the package: `zarfepoch-explain` is
-that of `explain`, `zarfepoch-why-none` that of `why_none`, and `zarfepoch` that of the package.
+that of `explain`, `zarfepoch-why-none` that of `why_none`, and `zarfepoch` that of the package. This is the list of them; pip has it once more, in
+pyproject.toml, and finds each by the name of its module, or of the package.
 """
 from __future__ import annotations
 
@@ -21,13 +22,10 @@ def command_of(module: str) -> Callable[[], NoReturn]:
 COMMANDS = {"zarfepoch": "__main__", **{"zarfepoch-" + name.replace("_", "-"): name for name in (
     "another", "check_certificate", "check_reason", "draw", "explain", "generate", "join", "split", "why_none")}}
 
-zarfepoch = command_of("__main__")
-another = command_of("another")
-check_certificate = command_of("check_certificate")
-check_reason = command_of("check_reason")
-draw = command_of("draw")
-explain = command_of("explain")
-generate = command_of("generate")
-join = command_of("join")
-split = command_of("split")
-why_none = command_of("why_none")
+
+def __getattr__(name: str) -> Callable[[], NoReturn]:
+    """A command as pip calls it."""
+    module = "__main__" if name == __package__ else name
+    if module not in COMMANDS.values():
+        raise AttributeError(f"module {__name__!r} has no attribute {name!r}")
+    return command_of(module)

@@ -118,7 +118,7 @@ def read_cliques(lines: list[bytes]) -> dict[bytes, list[int]]:
 
 
 def clash(one: Option, other: Option) -> bool:
-    """Whether both options name an item to which they don't give the same colour."""
+    """Whether two options can't stand together: both name an item, to which they don't give the same colour."""
     colours = dict(zip(other.names, other.colours))
     return any(name in colours and (colour is None or colours[name] != colour) for name, colour in zip(one.names, one.colours))
 

@@ -72,9 +72,9 @@ import os
 import re
 import sys
 from argparse import Namespace
-from collections.abc import Iterable, Iterator, Sequence
+from collections.abc import Iterator, Sequence
 from dataclasses import replace
-from typing import Any, Callable, Optional
+from typing import Callable, Optional
 
 from .command_words import as_called, parser_of
 from . import grids
@@ -86,7 +86,8 @@ from .cover_files import complain, MAX_COLOURS, MAX_ITEMS, MAX_NAME, MAX_OCCURRE
 from .fault_words import plural
 from .name_texts import as_seen, hint_alike, in_one_case, names_in, want_one_spelling, words_of
 from .pieces import filled, named_pieces, read_board, read_pieces
-from .puzzle_texts import Puzzle, blocks_of, called, no_cover, read_text, refuse, rows_of, UNREADABLE
+from .puzzle_texts import MISTAKE, Puzzle, blocks_of, called, no_cover, refuse, rows_of, UNREADABLE
+from .puzzles import Refused
 from .timetable_plans import read_plan
 from .timetable_rules import read_school
 
@@ -94,60 +95,49 @@ from .timetable_rules import read_school
 Cell = tuple[int, int]
 Pair = tuple[str, str]
 Pieces = dict[str, list[str]]
-# how a problem's first comment is made of what it is
-Note = Callable[[str], str]
+# what problems are, in words, and the problems: mostly one, of a timetable perhaps several
+Made = tuple[str, list[Puzzle]]
 
-# where examples are written in a clone, and where the texts are that they are made from
-HERE = TEXTS = os.path.join(os.path.dirname(os.path.abspath(__file__)), "..", "..", "..", "examples")
-# where the command line wants the problem, if not on the standard output
-OUT: list[str] = []
-# the exit status for a problem that is refused: 3 where it was made of a file
-STATUS = [2]
-# the problems that were made, for a command that goes on with them, in place of files
-TAKEN: list[list[Puzzle]] = []
+# where examples are in a clone, and the texts that they are made from
+EXAMPLES = os.path.join(os.path.dirname(os.path.abspath(__file__)), "..", "..", "..", "examples")
 
 
 def check_count(count: int, most: int, what: str) -> None:
     """Refuses what the program wouldn't read, best before it is made."""
     if count > most:
-        stop(f"this would have {count:,} {what}, and the program reads at most {most:,}", STATUS[0])
+        raise Refused(f"this would have {count:,} {what}, and the program reads at most {most:,}")
 
 
-def check_range(names: list[str], options: list[list[str]]) -> None:
+def check_range(puzzle: Puzzle) -> None:
     """Refuses what the program wouldn't read."""
+    names, options = puzzle.primary + puzzle.secondary, puzzle.options
     colours = list(dict.fromkeys(word.partition(":")[2] for option in options for word in option if ":" in word))
     for name in names + colours:
         if not name or len(os.fsencode(name)) > MAX_NAME or re.search(r"[\s:|\0\ud800-\udfff]", name):
-            stop(f"'{name}' can't be a name: 1 to {MAX_NAME} bytes of UTF-8, without white space, ':' and '|'", STATUS[0])
+            raise Refused(f"'{name}' can't be a name: 1 to {MAX_NAME} bytes of UTF-8, without white space, ':' and '|'")
     for count, most, what in ((len(names), MAX_ITEMS, "items"), (len(options), MAX_OPTIONS, "options"),
                               (sum(map(len, options)), MAX_OCCURRENCES, "occurrences of items in options"),
                               (len(colours), MAX_COLOURS, "colours")):
         check_count(count, most, what)
     twice = [name for name in names if names.count(name) > 1] if len(set(names)) < len(names) else []
     if twice:
-        stop(f"the name '{twice[0]}' would stand for two items", STATUS[0])
+        raise Refused(f"the name '{twice[0]}' would stand for two items")
     if not names:
-        stop("nothing is left to cover", STATUS[0])
+        raise Refused("nothing is left to cover")
 
 
-def write(name: str, note: str, primary: list[str], secondary: list[str], options: list[list[str]], comments: Iterable[str] = ()) -> None:
-    """Writes a problem into a file of this folder, or where the command line wants it if the name is `-`."""
-    give(name, Puzzle(primary, secondary, options, [note, *comments]))
+def told(note: str, puzzle: Puzzle) -> Puzzle:
+    """The same problem, with this as its first comment."""
+    return replace(puzzle, comments=[note, *puzzle.comments])
 
 
-def give(name: str, puzzle: Puzzle) -> None:
-    """Writes a problem, or hands it to the command that goes on with it."""
-    check_range(puzzle.primary + puzzle.secondary, puzzle.options)
-    if TAKEN:
-        TAKEN[0].append(puzzle)
+def write(puzzle: Puzzle, path: Optional[str]) -> None:
+    """Writes a problem into a file, or on the standard output where none is named."""
+    if path is None:
+        sys.stdout.buffer.write(puzzle.text())
         return
-    text = puzzle.text()
-    if name == "-" and not OUT:
-        sys.stdout.buffer.write(text)
-        return
-    path = OUT[0] if name == "-" else os.path.join(HERE, name)
     try:
-        put_bytes(path, text)
+        put_bytes(path, puzzle.text())
     except OSError as why:
         stop(f"{path} can't be written: {why.strerror}")
 
@@ -189,12 +179,12 @@ CROSSWORD_WORDS = ("ant arm ate bay car cat ear egg fan hat hen ice jam key tar 
                    "nest rain rest ship wash wise beach chair party stone store tiger")
 # examples that are made from texts of this folder, by the words of their command lines
 FROM_TEXTS = {
-    "timetable.dlx": ["timetable", "timetable.csv"], "school.dlx": ["timetable", "school.csv"], "jigsaw.dlx": ["jigsaw", "jigsaw.txt"],
-    "diagonals.dlx": ["sudoku", "diagonals.txt", "--diagonals"], "sudoku-16.dlx": ["sudoku", "sudoku-16.txt"],
-    "killer.dlx": ["killer", "killer.txt"], "kakuro.dlx": ["kakuro", "kakuro.txt"], "stars.dlx": ["stars", "stars.txt"],
-    "board.dlx": ["board", "board.txt", "--pieces", "pieces.txt"], "soma.dlx": ["board", "3x3x3", "--pieces", "soma"],
-    "hyper.dlx": ["sudoku", "hyper.txt", "--hyper"],
-    **{f"{kind}.dlx": [kind, f"{kind}.txt"] for kind in ("dominosa", "tents", "shikaku", "futoshiki", "kenken", "binairo")},
+    "timetable": ["timetable", "timetable.csv"], "school": ["timetable", "school.csv"], "jigsaw": ["jigsaw", "jigsaw.txt"],
+    "diagonals": ["sudoku", "diagonals.txt", "--diagonals"], "sudoku-16": ["sudoku", "sudoku-16.txt"],
+    "killer": ["killer", "killer.txt"], "kakuro": ["kakuro", "kakuro.txt"], "stars": ["stars", "stars.txt"],
+    "board": ["board", "board.txt", "--pieces", "pieces.txt"], "soma": ["board", "3x3x3", "--pieces", "soma"],
+    "hyper": ["sudoku", "hyper.txt", "--hyper"],
+    **{kind: [kind, f"{kind}.txt"] for kind in ("dominosa", "tents", "shikaku", "futoshiki", "kenken", "binairo")},
 }
 # the blocks of nine rows and of ten columns
 NONOGRAM: tuple[list[list[int]], list[list[int]]] = ([[1], [2], [3, 1], [4, 2], [5, 3], [1], [10], [8], [6]],
@@ -224,49 +214,54 @@ def rectangle(rows: int, columns: int) -> set[Cell]:
     return {(r, c) for r in range(rows) for c in range(columns)}
 
 
-def tiling(name: str, note: str, pieces: Pieces, cells: set[Cell]) -> None:
+def tiling(pieces: Pieces, cells: set[Cell]) -> Puzzle:
     """Each piece stands once where they have as many cells as the board together, else at most once."""
     all_stand = sum(len(shape(rows)) for rows in pieces.values()) == len(cells)
     items = (list(pieces) if all_stand else []) + list(names_of(cells).values())
-    write(name, note, items, [] if all_stand else list(pieces), list(placements(pieces, cells)))
+    return Puzzle(items, [] if all_stand else list(pieces), list(placements(pieces, cells)))
 
 
-def dominoes(name: str, note: str, cells: set[Cell]) -> None:
+def dominoes(cells: set[Cell]) -> Puzzle:
+    """Dominoes that fill a board."""
     options: list[list[str]] = []
     names = names_of(cells)
     for r, c in sorted(cells):
         options += [[names[r, c], names[to]] for to in ((r, c + 1), (r + 1, c)) if to in cells]
-    write(name, note, list(names.values()), [], options)
+    return Puzzle(list(names.values()), [], options)
 
 
-def queens(name: str, note: str, n: int) -> None:
+def queens(n: int) -> Puzzle:
+    """Queens that attack nobody: rows and columns are primary, diagonals secondary."""
     check_count(n * n, MAX_OPTIONS, "options")
     options = [[f"r{r}", f"c{c}", f"a{r + c}", f"b{r - c + n - 1}"] for r in range(n) for c in range(n)]
     lines = [f"{kind}{k}" for kind in "rc" for k in range(n)]
     diagonals = [f"{kind}{k}" for kind in "ab" for k in range(2 * n - 1)]
-    write(name, note, lines, diagonals, options)
+    return Puzzle(lines, diagonals, options)
 
 
-def langford(name: str, note: str, n: int) -> None:
+def langford(n: int) -> Puzzle:
+    """Langford pairs of 1 to n: two d's stand d places apart."""
     check_count(3 * n, MAX_ITEMS, "items")
-    options = [[str(d), f"s{k}", f"s{k + d + 1}"] for d in range(1, n + 1) for k in range(1, 2 * n - d)]
-    write(name, note, [str(d) for d in range(1, n + 1)] + [f"s{k}" for k in range(1, 2 * n + 1)], [], options)
+    return Puzzle(*puzzles.langford(n))
 
 
-def sudoku(name: str, note: str, rows: list[str]) -> None:
-    put_down(note, sudokus.Sudoku([[int(mark) if mark != "." else 0 for mark in row] for row in rows]).puzzle(), name)
+def sudoku(rows: list[str]) -> Puzzle:
+    """A sudoku of digits and dots."""
+    return sudokus.Sudoku([[int(mark) if mark != "." else 0 for mark in row] for row in rows]).puzzle()
 
 
-def triples(name: str, note: str, n: int) -> None:
+def triples(n: int) -> Puzzle:
+    """Lines of three points, any two of n points on one line."""
     check_count(math.comb(n, 3), MAX_OPTIONS, "options")
     width = len(str(n))
     pairs = {pair: "".join(f"{point:0{width}}" for point in pair) for pair in itertools.combinations(range(1, n + 1), 2)}
     options = [[pairs[pair] for pair in itertools.combinations(t, 2)] for t in itertools.combinations(range(1, n + 1), 3)]
-    write(name, note, list(pairs.values()), [], options)
+    return Puzzle(list(pairs.values()), [], options)
 
 
-def matching(name: str, note: str, edges: list[Pair]) -> None:
-    write(name, note, list(dict.fromkeys(itertools.chain(*edges))), [], [list(edge) for edge in edges])
+def matching(edges: list[Pair]) -> Puzzle:
+    """A perfect matching: items are vertices, options edges."""
+    return Puzzle(list(dict.fromkeys(itertools.chain(*edges))), [], [list(edge) for edge in edges])
 
 
 def looks_outwards(cells: set[Cell], cell: Cell) -> tuple[bool, ...]:
@@ -275,7 +270,7 @@ def looks_outwards(cells: set[Cell], cell: Cell) -> tuple[bool, ...]:
     return tuple(other not in cells for other in ((r - 1, c), (r, c + 1), (r + 1, c), (r, c - 1)))
 
 
-def squares(name: str, note: str, cells: set[Cell], pieces: Pieces, border: Optional[str] = None) -> None:
+def squares(cells: set[Cell], pieces: Pieces, border: Optional[str] = None) -> Puzzle:
     """Squares with coloured sides, edge to edge; with a border, all sides that look outwards have this colour, and no others where
     the squares have no more of it."""
     names, grid = names_of(cells), names_of({(r + a, c + b) for r, c in cells for a in (0, 1) for b in (0, 1)})
@@ -294,12 +289,12 @@ def squares(name: str, note: str, cells: set[Cell], pieces: Pieces, border: Opti
                 if all(map(fits, turned, outwards[r, c])):
                     options.append([piece, names[r, c]] + [f"{side}:{colour}" for side, colour in zip(sides, turned)])
         if len(options) > MAX_OPTIONS:
-            stop(f"the squares can lie in more than {MAX_OPTIONS:,} ways, and the program reads at most so many options", STATUS[0])
+            raise Refused(f"the squares can lie in more than {MAX_OPTIONS:,} ways, and the program reads at most so many options")
     sides = sorted({word.partition(":")[0] for option in options for word in option[2:]})
-    write(name, note, list(pieces) + list(names.values()), sides, options)
+    return Puzzle(list(pieces) + list(names.values()), sides, options)
 
 
-def word_squares(name: str, note: str, words: list[str], marks: Sequence[str] = ("",), repeat: bool = False) -> None:
+def word_squares(words: list[str], marks: Sequence[str] = ("",), repeat: bool = False) -> Puzzle:
     """Squares with a word in each row and in each column, all different unless `repeat` is set; a cell's colour is its letter. Behind
     each mark go the names of one square."""
     n = len(words[0])
@@ -311,7 +306,7 @@ def word_squares(name: str, note: str, words: list[str], marks: Sequence[str] = 
     check_count(len(slots) * len(words), MAX_OPTIONS, "options")
     options = [[slot] + ([] if repeat else [word]) + [f"{cell}:{letter}" for cell, letter in zip(cells, word)]
                for slot, cells in slots.items() for word in words]
-    write(name, note, list(slots), [mark + cell for mark in marks for cell in names.values()] + ([] if repeat else words), options)
+    return Puzzle(list(slots), [mark + cell for mark in marks for cell in names.values()] + ([] if repeat else words), options)
 
 
 # ---- what the command line gives
@@ -449,7 +444,8 @@ def words_that_fit(path: str, words: dict[str, int], rows: list[str]) -> dict[st
     return kept or words
 
 
-def crossword(given: Namespace, note: str) -> None:
+def crossword(given: Namespace) -> Puzzle:
+    """Words across and down in a grid."""
     if given.grid == given.file == "-":
         stop("- is the standard input, which can be read once")
     (rows, numbers), words = read_grid(given.grid), read_word_list(given.file)
@@ -464,9 +460,7 @@ def crossword(given: Namespace, note: str) -> None:
         problem = puzzles.crossword(rows, list(words), given.repeat)
     except puzzles.NoSolution as why:
         no_cover(f"{given.grid}, line {numbers[why.row]}: {why}", changes)
-    except puzzles.Refused as why:
-        stop(str(why), UNREADABLE)
-    put_down(note, Puzzle(*problem, [f"grid: {' '.join(rows)}"], changes))
+    return Puzzle(*problem, [f"grid: {' '.join(rows)}"], changes)
 
 
 def numbers_of(path: str, number: int, line: str, width: int) -> list[int]:
@@ -494,8 +488,9 @@ def read_nonogram(path: str) -> tuple[list[puzzles.Blocks], list[puzzles.Blocks]
     return [*rows], [*columns]
 
 
-def nonogram(note: str, rows: list[puzzles.Blocks], columns: list[puzzles.Blocks]) -> None:
-    put_down(note, Puzzle(*made_by(puzzles.nonogram, rows, columns), changes=puzzles.without_line(rows, columns)))
+def nonogram(rows: list[puzzles.Blocks], columns: list[puzzles.Blocks]) -> Puzzle:
+    """Black cells by the lengths of their blocks."""
+    return Puzzle(*puzzles.nonogram(rows, columns), changes=puzzles.without_line(rows, columns))
 
 
 def read_cubes(path: str) -> Pieces:
@@ -508,18 +503,6 @@ def read_cubes(path: str) -> Pieces:
     return {words[0]: words[1:] for _, words in lines}
 
 
-def put_down(note: str, puzzle: Puzzle, name: str = "-") -> None:
-    give(name, replace(puzzle, comments=[note, *puzzle.comments]))
-
-
-def made_by(kind: Callable[..., puzzles.Lists], *given: Any) -> puzzles.Lists:
-    """The items and options of a puzzle."""
-    try:
-        return kind(*given)
-    except puzzles.Refused as why:
-        stop(str(why), UNREADABLE)
-
-
 def board(given: Namespace) -> set[Cell]:
     cells = rectangle(*given.size)
     check_count(len(cells) - len(set(given.without)), MAX_ITEMS, "items")
@@ -530,12 +513,13 @@ def board(given: Namespace) -> set[Cell]:
     return left or stop("no cell is left")
 
 
-def pieces_on_board(given: Namespace, pieces: Pieces, note: str) -> None:
+def pieces_on_board(given: Namespace, pieces: Pieces) -> Puzzle:
+    """Pieces of as many cells each fill a board."""
     cells, each = board(given), len(shape(next(iter(pieces.values()))))
     if len(cells) > each * len(pieces) or len(cells) % each:
         stop(f"{len(pieces)} pieces of {each} cells can't fill {len(cells)} cells: that is more than {each * len(pieces)}, "
              f"or no multiple of {each}")
-    tiling("-", note, pieces, cells)
+    return tiling(pieces, cells)
 
 
 def filled_board(given: Namespace) -> Puzzle:
@@ -556,44 +540,48 @@ def given_colors(path: str, borders: list[Pair], colors: list[str]) -> dict[str,
     return found
 
 
-def colored_map(given: Namespace, note: str) -> None:
+def colored_map(given: Namespace) -> Puzzle:
+    """A colour for each place of a map."""
     borders = read_pairs(given.file, of_places=True)
     colors = [color.strip() for color in given.colors.split(",")]
     if "" in colors or len(set(map(in_one_case, colors))) < len(colors):
         stop(f"--colors takes different names with commas between, not '{given.colors}'")
     pairs = dict.fromkeys((min(pair), max(pair)) for pair in borders)
-    put_down(note, puzzles.coloring(list(pairs), colors, given_colors(given.file, borders, colors)))
+    return puzzles.coloring(list(pairs), colors, given_colors(given.file, borders, colors))
 
 
-def squares_on_board(given: Namespace, note: Note) -> None:
+def squares_on_board(given: Namespace) -> Puzzle:
+    """Squares with coloured sides, one in each cell of a board."""
     cells, found = board(given), read_squares(given.file)
     if len(cells) != len(found):
         stop(f"{len(found)} squares can't fill {len(cells)} cells")
-    squares("-", note("squares with coloured sides: where two meet, their sides have one colour"), cells, found, given.border)
+    return squares(cells, found, given.border)
 
 
-def timetable(given: Namespace, note: str) -> None:
-    """Writes the problem of a timetable, or several where one would be too large and some lessons share nothing."""
+def timetable(given: Namespace) -> list[Puzzle]:
+    """The problem of a timetable, or several where one would be too large and some lessons share nothing."""
     school = read_school(given.file, given.rules)
     found = timetables.timetables(school, read_plan(given.keep, school) if given.keep else None, given.seed)
-    if len(found) == 1 or TAKEN:
+    if len(found) == 1:
         timetables.note_size(found[0])
-        for puzzle in found:
-            put_down(note, puzzle)
-        return
-    if not OUT:
+    return [*found]
+
+
+def write_parts(given: Namespace, found: list[Puzzle]) -> None:
+    """Writes the parts of a timetable into files of their own."""
+    if not given.out:
         refuse(given.file, None, f"this timetable is too large for one file, and is parted into {len(found)} that share nobody and no room: "
                "--out FILE says where they go")
-    base, ending = os.path.splitext(OUT[0])
+    base, ending = os.path.splitext(given.out)
     for number, puzzle in enumerate(found, 1):
-        OUT[:] = [f"{base}-{number}{ending}"]
-        put_down(f"{note}; part {number} of {len(found)}", puzzle)
+        note, *more = puzzle.comments
+        write(replace(puzzle, comments=[f"{note}; part {number} of {len(found)}", *more]), f"{base}-{number}{ending}")
     complain(f"the timetable is parted into {len(found)} files that share nobody and no room: {base}-1{ending} to {base}-{len(found)}{ending}")
 
 
-def polyominoes(given: Namespace, note: Note) -> None:
-    what, shapes = given.kind, PENTOMINOES if given.kind == "pentominoes" else TETROMINOES
-    pieces_on_board(given, shapes, note(f"{what}, each at most once, fill a board"))
+def polyominoes(given: Namespace) -> Puzzle:
+    """Pentominoes or tetrominoes, each at most once, fill a board."""
+    return pieces_on_board(given, PENTOMINOES if given.kind == "pentominoes" else TETROMINOES)
 
 
 def is_typed(given: str) -> bool:
@@ -601,54 +589,52 @@ def is_typed(given: str) -> bool:
     return bool(re.fullmatch(r"[0-9._*?\s-]{4,}|[0-9._\s]+|[0-9A-Pa-p._\s]{16,}", given)) and not os.path.exists(given)
 
 
-# how each kind is written, from what the command line gives and a note on what it is
-KINDS: dict[str, Callable[[Namespace, Note], None]] = {
-    "queens": lambda given, note: queens(
-        "-", note(f"{given.n} queens that attack nobody: rows and columns are primary, diagonals secondary"), given.n),
-    "langford": lambda given, note: langford("-", note(f"Langford pairs of 1 to {given.n}: two d's stand d places apart"), given.n),
-    "triples": lambda given, note: triples("-", note(f"lines of three points, any two of {given.n} points on one line"), given.n),
-    "pentominoes": polyominoes,
-    "tetrominoes": polyominoes,
-    "board": lambda given, note: put_down(note("pieces fill a board"), filled_board(given)),
-    "dominoes": lambda given, note: dominoes("-", note("dominoes fill a board"), board(given)),
-    "sudoku": lambda given, note: put_down(
-        note("a sudoku: its empty cells, and what rows, columns and boxes still lack"),
-        sudokus.read_sudoku(given.given, is_typed(given.given), given.diagonals, given.boxes, given.hyper).puzzle()),
-    "jigsaw": lambda given, note: put_down(
-        note("a jigsaw sudoku: its empty cells, and what rows, columns and regions still lack"),
-        sudokus.read_jigsaw(given.file, given.diagonals).puzzle()),
-    "killer": lambda given, note: put_down(
-        note("a killer sudoku: cells, rows, columns and boxes, and of each cage its digits"),
-        sudokus.read_killer(given.file, given.diagonals, given.boxes).puzzle()),
-    "kakuro": lambda given, note: put_down(
-        note("a kakuro: a digit in each white cell, and in each run different ones with its sum"), grids.kakuro(given.file)),
-    "stars": lambda given, note: put_down(
-        note(f"a star battle: in each row, column and region {given.stars} of the stars, none of which touch"),
-        grids.star_battle(given.file, given.stars)),
-    "dominosa": lambda given, note: put_down(
-        note("dominosa: each domino of the set lies once, and each cell is under one"), number_grids.dominosa(given.file)),
-    "tents": lambda given, note: put_down(
-        note("tents: one for each tree, beside it, none of which touch, by their numbers in rows and columns"), number_grids.tents(given.file)),
-    "shikaku": lambda given, note: put_down(
-        note("shikaku: rectangles, each with the number of its cells"), number_grids.shikaku(given.file)),
-    "futoshiki": lambda given, note: put_down(
-        note("futoshiki: each digit once in each row and column, less or more as signs say"), number_grids.futoshiki(given.file)),
-    "kenken": lambda given, note: put_down(
-        note("KenKen: each digit once in each row and column, and cages that make their numbers"), number_grids.kenken(given.file)),
-    "binairo": lambda given, note: put_down(
-        note("binairo: as many noughts as ones in each line, no three alike side by side" + ("" if given.alike else ", no two lines alike")),
-        number_grids.binairo(given.file, given.alike)),
-    "coloring": lambda given, note: colored_map(given, note("a colour for each place, and no two neighbours alike")),
-    "matching": lambda given, note: matching("-", note("a perfect matching: items are vertices, options edges"), read_pairs(given.file)),
-    "timetable": lambda given, note: timetable(given, note("each lesson once, and no teacher, class or room twice at a time")),
-    "squares": squares_on_board,
-    "word-square": lambda given, note: word_squares(
-        "-", note(f"{'' if given.repeat else 'different '}words in a square, across and down"), read_words(given.file, given.ignore_case), repeat=given.repeat),
-    "crossword": lambda given, note: crossword(
-        given, note(f"{'' if given.repeat else 'different '}words in a grid, across and down")),
-    "nonogram": lambda given, note: nonogram(note("black cells in rows and columns, by the lengths of their blocks"), *read_nonogram(given.file)),
-    "cubes": lambda given, note: write(
-        "-", note("cubes in a row, turned so that no side of the row shows a colour twice"), *puzzles.cubes(read_cubes(given.file))),
+# how each kind is made, from what the command line gives: what it is, in words, and the problem
+KINDS: dict[str, Callable[[Namespace], Made]] = {
+    "queens": lambda given: (f"{given.n} queens that attack nobody: rows and columns are primary, diagonals secondary", [queens(given.n)]),
+    "langford": lambda given: (f"Langford pairs of 1 to {given.n}: two d's stand d places apart", [langford(given.n)]),
+    "triples": lambda given: (f"lines of three points, any two of {given.n} points on one line", [triples(given.n)]),
+    "pentominoes": lambda given: ("pentominoes, each at most once, fill a board", [polyominoes(given)]),
+    "tetrominoes": lambda given: ("tetrominoes, each at most once, fill a board", [polyominoes(given)]),
+    "board": lambda given: ("pieces fill a board", [filled_board(given)]),
+    "dominoes": lambda given: ("dominoes fill a board", [dominoes(board(given))]),
+    "sudoku": lambda given: (
+        "a sudoku: its empty cells, and what rows, columns and boxes still lack",
+        [sudokus.read_sudoku(given.given, is_typed(given.given), given.diagonals, given.boxes, given.hyper).puzzle()]),
+    "jigsaw": lambda given: (
+        "a jigsaw sudoku: its empty cells, and what rows, columns and regions still lack",
+        [sudokus.read_jigsaw(given.file, given.diagonals).puzzle()]),
+    "killer": lambda given: (
+        "a killer sudoku: cells, rows, columns and boxes, and of each cage its digits",
+        [sudokus.read_killer(given.file, given.diagonals, given.boxes).puzzle()]),
+    "kakuro": lambda given: ("a kakuro: a digit in each white cell, and in each run different ones with its sum", [grids.kakuro(given.file)]),
+    "stars": lambda given: (
+        f"a star battle: in each row, column and region {given.stars} of the stars, none of which touch",
+        [grids.star_battle(given.file, given.stars)]),
+    "dominosa": lambda given: (
+        "dominosa: each domino of the set lies once, and each cell is under one", [number_grids.dominosa(given.file)]),
+    "tents": lambda given: (
+        "tents: one for each tree, beside it, none of which touch, by their numbers in rows and columns", [number_grids.tents(given.file)]),
+    "shikaku": lambda given: ("shikaku: rectangles, each with the number of its cells", [number_grids.shikaku(given.file)]),
+    "futoshiki": lambda given: (
+        "futoshiki: each digit once in each row and column, less or more as signs say", [number_grids.futoshiki(given.file)]),
+    "kenken": lambda given: (
+        "KenKen: each digit once in each row and column, and cages that make their numbers", [number_grids.kenken(given.file)]),
+    "binairo": lambda given: (
+        "binairo: as many noughts as ones in each line, no three alike side by side" + ("" if given.alike else ", no two lines alike"),
+        [number_grids.binairo(given.file, given.alike)]),
+    "coloring": lambda given: ("a colour for each place, and no two neighbours alike", [colored_map(given)]),
+    "matching": lambda given: ("a perfect matching: items are vertices, options edges", [matching(read_pairs(given.file))]),
+    "timetable": lambda given: ("each lesson once, and no teacher, class or room twice at a time", timetable(given)),
+    "squares": lambda given: ("squares with coloured sides: where two meet, their sides have one colour", [squares_on_board(given)]),
+    "word-square": lambda given: (
+        f"{'' if given.repeat else 'different '}words in a square, across and down",
+        [word_squares(read_words(given.file, given.ignore_case), repeat=given.repeat)]),
+    "crossword": lambda given: (f"{'' if given.repeat else 'different '}words in a grid, across and down", [crossword(given)]),
+    "nonogram": lambda given: (
+        "black cells in rows and columns, by the lengths of their blocks", [nonogram(*read_nonogram(given.file))]),
+    "cubes": lambda given: (
+        "cubes in a row, turned so that no side of the row shows a colour twice", [Puzzle(*puzzles.cubes(read_cubes(given.file)))]),
 }
 
 
@@ -658,20 +644,23 @@ def told_word(word: str) -> str:
     return "".join(parts) if is_typed(word) else f"'{' '.join(parts)}'" if len(parts) > 1 else "".join(parts)
 
 
+def told_words(given_words: list[str]) -> str:
+    """The words of a command line, as a comment tells them."""
+    kept = [word for before, word in zip(["", *given_words], given_words) if "--out" not in (before, word.partition("=")[0])]
+    words = [os.path.basename(word) if os.path.exists(word) else told_word(word) for word in kept]
+    return " ".join(shown(os.fsencode(word)) for word in words)
+
+
 def problems_of(given: Namespace, given_words: list[str]) -> list[Puzzle]:
-    """The problems that these words of a command line ask for, mostly one, for a command that goes on with them."""
-    TAKEN[:] = [[]]
-    STATUS[0] = UNREADABLE if hasattr(given, "file") or given.kind == "sudoku" else 2
-    make(given, given_words)
-    return TAKEN.pop()
-
-
-def make(given: Namespace, given_words: list[str]) -> None:
-    """Writes the problem that these words of a command line ask for; its comment tells how it was made."""
-    told = [word for before, word in zip(["", *given_words], given_words) if "--out" not in (before, word.partition("=")[0])]
-    words = [os.path.basename(word) if os.path.exists(word) else told_word(word) for word in told]
-    words = [shown(os.fsencode(word)) for word in words]
-    KINDS["word-square" if given.kind == "words" else given.kind](given, lambda what: f"{what} (generate.py {' '.join(words)})")
+    """The problems that these words of a command line ask for, mostly one; their first comment tells how they were made."""
+    try:
+        what, found = KINDS["word-square" if given.kind == "words" else given.kind](given)
+        for puzzle in found:
+            check_range(puzzle)
+    except Refused as why:
+        # (the file is to be blamed, where the problem was made of one)
+        stop(why, UNREADABLE if hasattr(given, "file") or given.kind == "sudoku" else MISTAKE)
+    return [told(f"{what} (generate.py {told_words(given_words)})", puzzle) for puzzle in found]
 
 
 def command_line() -> argparse.ArgumentParser:
@@ -750,45 +739,54 @@ def add_options(kinds: dict[str, argparse.ArgumentParser]) -> None:
                                     help="draws the order of the options by lot: where a search doesn't end, another N may help")
 
 
-def examples() -> None:
-    tiling("pentominoes-6x10.dlx", "the twelve pentominoes fill a rectangle of 6 by 10", PENTOMINOES, rectangle(6, 10))
-    tiling("tetrominoes-4x5.dlx", "the five tetrominoes can't fill a rectangle of 4 by 5: none", TETROMINOES, rectangle(4, 5))
+def examples() -> Iterator[tuple[str, Puzzle]]:
+    """The larger examples, by the names of their files."""
+    yield "pentominoes-6x10", told("the twelve pentominoes fill a rectangle of 6 by 10", tiling(PENTOMINOES, rectangle(6, 10)))
+    yield "tetrominoes-4x5", told("the five tetrominoes can't fill a rectangle of 4 by 5: none", tiling(TETROMINOES, rectangle(4, 5)))
     board = rectangle(8, 8) - {(0, 0), (7, 7)}
-    dominoes("mutilated-chessboard.dlx", "a chessboard without two opposite corners, by dominoes: none", board)
-    queens("queens-8.dlx", "eight queens that attack nobody: rows and columns are primary, diagonals secondary", 8)
-    langford("langford-4.dlx", "Langford pairs of 1 to 4: two d's stand d places apart", 4)
-    langford("langford-5.dlx", "Langford pairs of 1 to 5: none", 5)
-    sudoku("sudoku.dlx", "a sudoku: its empty cells, and what rows, columns and boxes still lack", [
-        "8........", "..36.....", ".7..9.2..", ".5...7...", "....457..", "...1...3.", "..1....68", "..85...1.", ".9....4.."])
+    yield "mutilated-chessboard", told("a chessboard without two opposite corners, by dominoes: none", dominoes(board))
+    yield "queens-8", told("eight queens that attack nobody: rows and columns are primary, diagonals secondary", queens(8))
+    yield "langford-4", told("Langford pairs of 1 to 4: two d's stand d places apart", langford(4))
+    yield "langford-5", told("Langford pairs of 1 to 5: none", langford(5))
+    yield "sudoku", told("a sudoku: its empty cells, and what rows, columns and boxes still lack", sudoku([
+        "8........", "..36.....", ".7..9.2..", ".5...7...", "....457..", "...1...3.", "..1....68", "..85...1.", ".9....4.."]))
     borders = ["WA NT", "WA SA", "NT SA", "NT Q", "SA Q", "SA NSW", "SA V", "Q NSW", "NSW V"]
     pairs = [(one, other) for one, other in map(str.split, borders)]
-    put_down("three colours for the states of Australia on its mainland", puzzles.coloring(pairs, ["red", "green", "blue"], {}), "australia.dlx")
-    triples("fano-plane.dlx", "seven lines of three points, so that any two of seven points lie on one line", 7)
-    squares("squares-3x3.dlx", "nine squares, edge to edge in one colour, and grey all round", rectangle(3, 3),
-            {line[0]: line.split()[1:] for line in SQUARES}, "grey")
-    word_squares("word-square.dlx", "six words across and down, from a list of ten", WORDS.split())
-    write("crossword.dlx", "ten words across and down in a grid of 5 by 5, from a list of forty",
-          *puzzles.crossword(CROSSWORD, CROSSWORD_WORDS.split()), [f"grid: {' '.join(CROSSWORD)}"])
-    write("nonogram.dlx", "a picture of black cells, by the lengths of their blocks in rows and columns", *puzzles.nonogram(*NONOGRAM))
-    write("instant-insanity.dlx", "four cubes in a row, turned so that no side of the row shows a colour twice",
-          *puzzles.cubes({line.split()[0]: line.split()[1:] for line in CUBES}))
+    yield "australia", told("three colours for the states of Australia on its mainland", puzzles.coloring(pairs, ["red", "green", "blue"], {}))
+    yield "fano-plane", told("seven lines of three points, so that any two of seven points lie on one line", triples(7))
+    yield "squares-3x3", told("nine squares, edge to edge in one colour, and grey all round",
+                              squares(rectangle(3, 3), {line[0]: line.split()[1:] for line in SQUARES}, "grey"))
+    yield "word-square", told("six words across and down, from a list of ten", word_squares(WORDS.split()))
+    yield "crossword", told("ten words across and down in a grid of 5 by 5, from a list of forty",
+                            Puzzle(*puzzles.crossword(CROSSWORD, CROSSWORD_WORDS.split()), [f"grid: {' '.join(CROSSWORD)}"]))
+    yield "nonogram", told("a picture of black cells, by the lengths of their blocks in rows and columns", Puzzle(*puzzles.nonogram(*NONOGRAM)))
+    yield "instant-insanity", told("four cubes in a row, turned so that no side of the row shows a colour twice",
+                                   Puzzle(*puzzles.cubes({line.split()[0]: line.split()[1:] for line in CUBES})))
 
 
-    for name, words in FROM_TEXTS.items():
-        words = [os.path.join(TEXTS, word) if word.endswith((".txt", ".csv")) else word for word in words]
-        OUT[:] = [os.path.join(HERE, name)]
-        make(command_line().parse_args(words), words)
-    OUT.clear()
+def examples_from_texts() -> Iterator[tuple[str, Puzzle]]:
+    """The examples that are made from texts, by the names of their files."""
+    for name, own in FROM_TEXTS.items():
+        words = [os.path.join(EXAMPLES, word) if word.endswith((".txt", ".csv")) else word for word in own]
+        yield from ((name, puzzle) for puzzle in problems_of(command_line().parse_args(words), words))
+
+
+def write_examples(folder: str) -> None:
+    """Writes all examples into a folder."""
+    for name, puzzle in itertools.chain(examples(), examples_from_texts()):
+        write(puzzle, os.path.join(folder, f"{name}.dlx"))
 
 
 def main() -> int:
     given = command_line().parse_args()
     if given.kind:
-        OUT[:] = [given.out] if given.out else []
-        STATUS[0] = UNREADABLE if hasattr(given, "file") or given.kind == "sudoku" else 2
-        make(given, sys.argv[1:])
-    elif os.path.isdir(TEXTS):
-        examples()
+        found = problems_of(given, sys.argv[1:])
+        if len(found) == 1:
+            write(found[0], given.out or None)
+        else:
+            write_parts(given, found)
+    elif os.path.isdir(EXAMPLES):
+        write_examples(EXAMPLES)
     else:
         stop("a KIND is missing; --help lists all of them")
     return 0

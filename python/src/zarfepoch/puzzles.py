@@ -1,4 +1,4 @@
-"""Crosswords, nonograms, maps and cubes with coloured faces, as exact covers: each function gives the primary items, the secondary items and
+"""Langford pairs, crosswords, nonograms, maps and cubes with coloured faces, as exact covers: each function gives the primary items, the secondary items and
 the options of a problem, or the whole problem. `generate.py` reads the puzzles and writes the problems."""
 from __future__ import annotations
 
@@ -38,6 +38,14 @@ def cell_names(rows: int, columns: int) -> dict[Cell, str]:
     """The name of each cell, by row and column, with the same number of digits in all."""
     width = len(str(max(rows, columns) - 1))
     return {(r, c): f"{r:0{width}}{c:0{width}}" for r in range(rows) for c in range(columns)}
+
+
+# ---- Langford pairs
+
+def langford(n: int) -> Lists:
+    """Two of each number from 1 to n in a row, those of d with d places between them: the numbers, their places, and the pairs."""
+    pairs = [[str(d), f"s{k}", f"s{k + d + 1}"] for d in range(1, n + 1) for k in range(1, 2 * n - d)]
+    return [str(d) for d in range(1, n + 1)] + [f"s{k}" for k in range(1, 2 * n + 1)], [], pairs
 
 
 # ---- crosswords

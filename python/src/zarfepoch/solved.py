@@ -59,7 +59,7 @@ from .puzzle_texts import Change, PlainlyNone, Puzzle
 from .search_parts import Tree
 from .svg_paper import Paper
 from .timetable_plans import Plan, read_plan
-from .timetables import Timetable
+from .timetables import Timetable, note_size
 from .weeks import in_order
 from .why_none import in_words, told_lines
 
@@ -286,6 +286,8 @@ def solve_kind(given: Namespace, words: list[str]) -> int:
         stop(why)
     try:
         found = generate.problems_of(given, words)
+        if len(found) > 1:
+            note_size(found[0])
     except PlainlyNone as why:
         tell_changes(program, why.changes, given.seconds)
         raise

@@ -27,8 +27,8 @@ from collections.abc import Iterator
 from typing import Callable, Optional
 
 from .command_words import parser_of
-from .cover_files import complain, Option, Problem, Unreadable, put, read_bytes, read_problem, refusal, run, shown, stop
-from .cover_reason import Named, Reason
+from .cover_files import complain, Problem, Unreadable, put, read_bytes, read_problem, refusal, run, shown, stop
+from .cover_reason import Named, Reason, clash
 from .draw_reason import reason_svg
 from .even_room import any_reason
 from .fault_words import listed, plural, quoted
@@ -83,12 +83,6 @@ def least(kept: list[bytes], is_none: Callable[[list[bytes]], bool]) -> list[byt
                 place += size
         size = min(size // 2, len(kept) // 2)
     return kept
-
-
-def clash(one: Option, other: Option) -> bool:
-    """Whether two options can't stand together."""
-    colours = dict(zip(one.names, one.colours))
-    return any(name in colours and (colour is None or colours[name] != colour) for name, colour in zip(other.names, other.colours))
 
 
 def clash_always(problem: Problem, by_item: dict[bytes, list[int]], one: bytes, other: bytes) -> bool:
