@@ -124,7 +124,8 @@ fn certify<E: Sink>(
     read: &Read,
     errors: &mut E,
 ) -> u8 {
-    let made = CertificatePlace::create(rt, asked.request.settings.file, asked.name);
+    let request = asked.request;
+    let made = CertificatePlace::create(rt, request.settings.file, asked.name);
     let (place, lines) = match made {
         Ok(made) => made,
         Err(fate) => return fate.tell(asked.name, 3, errors),

@@ -20,8 +20,7 @@ pub use cover_engines::{
 use cover_engines::{
     EngineEnd, Failure, LineStyle, Loopback, Machine, ProgressLog, SearchLimits, TimeLimit,
     USUAL_BOOK_BYTES, Unread, alone_within, book_bytes_of, check_within, names_of, read_input,
-    simulate_source, tell_end_of,
-    tell_unanswered, tell_unopened,
+    simulate_source, tell_end_of, tell_unanswered, tell_unopened,
 };
 use dlx_reader::{CountedReader, CountedWriter, Sink};
 use either::Either;
