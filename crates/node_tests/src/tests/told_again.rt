@@ -134,11 +134,12 @@ fn members(alloc: Global) -> Result<Script, AllocError> {
     Ok(script)
 }
 
-/// 1,100 children, and then the first and the last of them once more: 1,024 are kept, so the first is heard again, and another in its place.
+/// 1,100 children, and then four of them once more. The last 1,024 are kept, so the first child is heard again. It takes the place of the oldest, which
+/// is heard again, too; the last one and one of the next oldest are still there.
 fn many_gifts(alloc: Global) -> Result<Script, AllocError> {
     let mut script = Script::new(alloc);
     let (from, to) = (OTHER, HERE);
-    for serial in (0..1_100).chain([0, 1_099, 76]) {
+    for serial in (0..1_100).chain([0, 1_099, 76, 78]) {
         let body = gift(alloc, serial, 1);
         let packet = Packet { from, to, body };
         if packet_wire::is_well_formed(&packet) {
