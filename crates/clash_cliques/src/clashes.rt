@@ -4,6 +4,7 @@ ghost use Rattle.std.specs.Prelude.{◌≡◌, ◌<◌, length};
 
 use crate::bits::Bits;
 use cover_problem::Problem;
+use cover_reasons::{ReasonWatch, looks_at};
 use std::alloc::{AllocError, Global};
 
 /// The options that name an item, and of these the ones that give it no colour.
@@ -69,21 +70,35 @@ fn set_of(
     Ok(set)
 }
 
-/// Where each item stands; the only error is out of memory.
-fn namings_of(alloc: Global, problem: &Problem) -> Result<Vec<Naming>, AllocError> {
+/// Where each item stands, as far as the watch doesn't end that; the only error is out of memory.
+fn namings_of<W: ReasonWatch>(
+    alloc: Global,
+    problem: &Problem,
+    watch: &mut W,
+) -> Result<Vec<Naming>, AllocError> {
     let mut namings = unnamed(alloc, problem.items(), problem.options())?;
     for option in 0..problem.options() as u16 {
+        if looks_at(option, watch) {
+            break;
+        }
         note_option(&mut namings, problem, option);
     }
     Ok(namings)
 }
 
 impl Clashes {
-    /// The clashes of a problem's options; the only error is out of memory.
-    pub(crate) fn new(alloc: Global, problem: &Problem) -> Result<Clashes, AllocError> {
-        let namings = namings_of(alloc, problem)?;
+    /// The clashes of a problem's options, of its first ones where the watch ends that; the only error is out of memory.
+    pub(crate) fn new<W: ReasonWatch>(
+        alloc: Global,
+        problem: &Problem,
+        watch: &mut W,
+    ) -> Result<Clashes, AllocError> {
+        let namings = namings_of(alloc, problem, watch)?;
         let mut sets = Vec::with_capacity(alloc, problem.options())?;
         for option in 0..problem.options() as u16 {
+            if looks_at(option, watch) {
+                break;
+            }
             sets.push(set_of(alloc, problem, &namings, option)?)?;
         }
         Ok(Clashes { sets })

@@ -80,7 +80,7 @@ fn grown_cliques<W: ReasonWatch>(
     problem: &Problem,
     watch: &mut W,
 ) -> Result<Vec<Vec<u16>>, AllocError> {
-    let clashes = Clashes::new(alloc, problem)?;
+    let clashes = Clashes::new(alloc, problem, watch)?;
     let seeds = options_by_item(alloc, problem)?;
     let mut growth = Growth::new(alloc, problem)?;
     let mut found = Vec::new(alloc);
@@ -88,7 +88,7 @@ fn grown_cliques<W: ReasonWatch>(
         if growth.steps() > MOST_STEPS || watch.look() {
             break;
         }
-        if seed.len() > 1 && growth.grow(&clashes, seed) {
+        if seed.len() > 1 && growth.grow(&clashes, seed, watch) {
             keep(alloc, &mut growth, &seeds, &mut found)?;
         }
     }
@@ -123,17 +123,18 @@ fn most_cliques(problem: &Problem) -> usize {
     MOST_CLIQUES.min(copies).min(room)
 }
 
-/// Names the first cliques, so many at most.
-fn named(
+/// Names the first cliques, so many at most, until the watch ends that.
+fn named<W: ReasonWatch>(
     alloc: Global,
     problem: &Problem,
     lists: Vec<Vec<u16>>,
     most: usize,
+    watch: &mut W,
 ) -> Result<Vec<Clique>, AllocError> {
     let mut cliques = Vec::with_capacity(alloc, lists.len().min(most))?;
     let mut number: u32 = 0;
     for list in lists {
-        if cliques.len() >= most {
+        if cliques.len() >= most || watch.look() {
             break;
         }
         number = free_number(alloc, problem, number.saturating_add(1))?;
@@ -160,5 +161,5 @@ pub fn find_cliques<W: ReasonWatch>(
         return Ok(Vec::new(alloc));
     }
     let lists = grown_cliques(alloc, problem, watch)?;
-    named(alloc, problem, lists, most_cliques(problem))
+    named(alloc, problem, lists, most_cliques(problem), watch)
 }

@@ -5,6 +5,7 @@ ghost use Rattle.std.specs.Prelude.{◌≡◌};
 use crate::bits::Bits;
 use crate::clashes::Clashes;
 use cover_problem::Problem;
+use cover_reasons::ReasonWatch;
 use std::alloc::{AllocError, Global};
 
 /// How many candidates are compared before one comes into the clique.
@@ -98,11 +99,19 @@ impl Growth {
         }
     }
 
-    /// Makes the clique of these options and of candidates, one after the other. Returns whether there was one.
-    pub(crate) fn grow(&mut self, clashes: &Clashes, options: &[u16]) -> bool {
+    /// Makes the clique of these options and of candidates, one after the other, until the watch ends that. Returns whether there was one.
+    pub(crate) fn grow<W: ReasonWatch>(
+        &mut self,
+        clashes: &Clashes,
+        options: &[u16],
+        watch: &mut W,
+    ) -> bool {
         self.begin(clashes, options);
         let begun = self.count;
         for _ in 0..self.options {
+            if watch.look() {
+                break;
+            }
             let Some(option) = self.best(clashes) else {
                 break;
             };

@@ -41,9 +41,8 @@ fn why_it_ended(end: &SiteEnd) -> &'static str {
         EndCause::Memory => "out of memory: try fewer --nodes or --workers",
         EndCause::Silence => "a site heard nothing for long: try again, or answer",
         EndCause::Time => "the time is over: try more --seconds",
-        EndCause::Turns if !end.is_manned => {
-            "a thread could not be started: try fewer --nodes or --workers"
-        }
         EndCause::Turns => "the turns of a site are over: try more --turns",
+        EndCause::Stopped if end.is_manned => "a site was stopped by another: try again, or answer",
+        EndCause::Stopped => "a thread could not be started: try fewer --nodes or --workers",
     }
 }

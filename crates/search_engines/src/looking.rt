@@ -1,7 +1,7 @@
 //! A watch that lets a search rest now and then, and looks for a reason meanwhile.
 //!
 //! So a reason of a small problem is found after a hundredth of a second, and one that takes long in a search that takes far longer, and no
-//! search is begun again for it. What it costs is a thousandth of a second at first, and then an 80th of the search's time at the most, each time
+//! search is begun again for it. What it costs is 0.6 thousandths of a second at first, and then an 80th of the search's time at the most, each time
 //! it looks: with times four times as long from one to the next, a 60th of all.
 
 ghost use Rattle.std.specs.Prelude.{◌≡◌, [], true, None, IfSome};
@@ -25,8 +25,12 @@ pub(crate) const EARLY: u64 = 10;
 /// The same for the first time that one by multipliers alone is looked for, after those of other kinds were.
 pub(crate) const LATE: u64 = 640;
 
-/// Which part of a search's time goes by at most while a reason is looked for.
+/// Which part of a search's time goes by at most while a reason is looked for, unless that is less than `LEAST`.
 const PART: u64 = 80;
+
+/// For how many microseconds a reason is looked for at most in a search that is young. With what is done between two looks at the clock, a
+/// search that finds none then lasts less than a thousandth of a second longer.
+const LEAST: u64 = 600;
 
 /// How many options a problem has at most of which a reason is looked for at `EARLY`: of one with more, the first look at all options takes
 /// longer than a thousandth of a second.
@@ -35,7 +39,7 @@ const MOST_OPTIONS: usize = 2_000;
 /// How many items it has at most if multipliers are looked for then, too: with 1,000 their matrix takes 8 MB.
 const MOST_ITEMS: usize = 300;
 
-/// A watch that ends the search for a reason after so many milliseconds.
+/// A watch that ends the search for a reason after so many microseconds.
 #[derive(Drop)]
 struct BriefWatch<'a, C: Clock> {
     clock: &'a C,
@@ -46,7 +50,7 @@ struct BriefWatch<'a, C: Clock> {
 impl<'a, C: Clock> ReasonWatch for BriefWatch<'a, C> {
     fn look(&mut self) -> bool {
         match self.stopwatch.elapsed(self.clock) {
-            Some(elapsed) => elapsed >= Duration::from_millis(self.most),
+            Some(elapsed) => elapsed >= Duration::from_micros(self.most),
             None => true,
         }
     }
@@ -140,7 +144,7 @@ impl<'a, 'b, V: Watch, C: Clock> LookingWatch<'a, 'b, V, C> {
         let mut brief = BriefWatch {
             clock: self.clock,
             stopwatch: Stopwatch::new(self.clock),
-            most: (now / PART).max(1),
+            most: (now.saturating_mul(1_000) / PART).max(LEAST),
         };
         let found = if now >= LATE {
             find_fractional_reason_until(self.alloc, self.problem, &mut brief)

@@ -15,6 +15,8 @@ pub enum EndCause {
     Silence,
     /// The run has lasted as long as it may.
     Time,
-    /// Its turns are over. So is counted, too, that the site's other threads or another site ended it, or that a thread couldn't be started.
+    /// Its turns are over.
     Turns,
+    /// It was stopped by the site's other threads or by another site, which say why, or a thread of the site couldn't be started.
+    Stopped,
 }

@@ -36,19 +36,15 @@ impl Ending {
     /// Returns the ending of a run of so many nodes that begins now and lasts so long at most, if it is limited. A limited run whose
     /// clock can't be read ends at once.
     pub fn within<R: Clock>(rt: &R, limit: Option<Duration>, nodes: u8) -> Ending {
-        let mut ending = Ending {
+        Ending {
             raised: AtomicBool::new(false),
             has_registry: AtomicBool::new(false),
             nodes: AtomicU64::new(u64::from(nodes)),
-            timer: None,
-        };
-        if let Some(limit) = limit {
-            match Instant::now(rt) {
-                Ok(began) => ending.timer = Some(Timer { began, limit }),
-                Err(_) => ending.raise(),
-            }
+            timer: limit.map(|limit| Timer {
+                began: Instant::now(rt).ok(),
+                limit,
+            }),
         }
-        ending
     }
 
     /// A thread of each kind has begun at the registry's site.
@@ -90,7 +86,7 @@ impl Ending {
         if self.is_late(rt) {
             EndCause::Time
         } else {
-            EndCause::Turns
+            EndCause::Stopped
         }
     }
 
@@ -103,20 +99,25 @@ impl Ending {
     }
 }
 
-/// A time limit, and when it began to count.
+/// A time limit, and when it began to count, if the clock could be read then.
 #[derive(Clone, Copy)]
 struct Timer {
-    began: Instant,
+    began: Option<Instant>,
     limit: Duration,
 }
 
 impl Timer {
-    /// Whether the limit has passed, or the clock can't be read any more.
+    /// Whether the limit has passed, or the clock can't be read.
     fn has_passed<R: Clock>(&self, rt: &R) -> bool {
-        match self.began.elapsed(rt) {
-            Ok(elapsed) => elapsed >= self.limit,
+        match self.elapsed(rt) {
+            Some(elapsed) => elapsed >= self.limit,
             // (else a run that was to be limited would have no limit)
-            Err(_) => true,
+            None => true,
         }
+    }
+
+    /// How much of it has gone by, unless the clock can't be read, or couldn't be when it began to count.
+    fn elapsed<R: Clock>(&self, rt: &R) -> Option<Duration> {
+        self.began?.elapsed(rt).ok()
     }
 }

@@ -41,7 +41,8 @@ impl SiteEnd {
             | EndCause::Faults
             | EndCause::Silence
             | EndCause::Time
-            | EndCause::Turns => {
+            | EndCause::Turns
+            | EndCause::Stopped => {
                 // (a node that lacked threads has taken no work, so the others lose nothing with it)
                 node == 0 || self.is_manned
             }
@@ -50,7 +51,7 @@ impl SiteEnd {
 
     /// There was no start: with any other end it is that end.
     pub const NONE: SiteEnd = SiteEnd {
-        cause: EndCause::Turns,
+        cause: EndCause::Stopped,
         losses: 0,
         dropped: 0,
         failures: 0,

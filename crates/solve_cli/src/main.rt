@@ -283,7 +283,7 @@ fn run_request<R: Threads + Wait + Clock + Net + Sync>(
     request: &Request<'_>,
 ) -> u8 {
     let mut errors = CountedWriter::new(rt.stderr());
-    // (the time counts from here, so opening and reading the file is part of it)
+    // (the time counts from here, so that opening and reading the file is part of it; a run of several nodes counts from its own start)
     let limits = limits_of(rt, request);
     match open_told(rt, request.settings.file, &mut errors) {
         Ok(mut source) => run_opened(rt, threads, request, &limits, &mut source, &mut errors),

@@ -180,11 +180,12 @@ impl<
     /// Why the thread ends before it receives once more, if it does.
     fn why_it_ends(&self) -> Option<EndCause> {
         let (shared, schedule) = (self.actor.shared, &self.receiver.schedule);
-        let is_spent = schedule.is_spent(self.receiver.now) || schedule.has_announced();
-        if is_spent || shared.signals.is_stopped() {
+        if schedule.is_spent(self.receiver.now) || schedule.has_announced() {
             Some(EndCause::Turns)
         } else if shared.context.ending.is_late(self.rt) {
             Some(EndCause::Time)
+        } else if shared.signals.is_stopped() {
+            Some(EndCause::Stopped)
         } else {
             None
         }

@@ -115,7 +115,7 @@ impl<'r, 't, 's, J: Run, C: Core + Drop, N: CellName, H: Gate + Follower, R: Wai
     /// One turn: goes on with what is in hand, or takes up work, unless the site is to end.
     fn turn(&mut self) -> Turn {
         if self.actor.shared.signals.is_stopped() {
-            return Turn::Ended(EndCause::Turns);
+            return Turn::Ended(EndCause::Stopped);
         }
         match mem::replace(&mut self.hand, Hand::Nothing) {
             // (only with nothing in hand: a job that was taken up is known to no other worker)
@@ -199,16 +199,16 @@ impl<'r, 't, 's, J: Run, C: Core + Drop, N: CellName, H: Gate + Follower, R: Wai
         // (a finding has a fuel of at least 1, which no type says of the job's)
         self.limit = fuel.max(1);
         let keeps = self.searcher.keeps();
-        let fuel = search_fuel(keeps, self.limit);
+        let most = search_fuel(keeps, self.limit);
         let (hooks, signals) = (self.actor.shared.context.hooks, self.actor.shared.signals);
         self.keep_shared();
         hooks.begun();
         let length = prefix.as_slice().len();
         let quota = self.pace.quota(length, self.limit);
-        let mut watch = SearchWatch::new(signals.stop_flag(), hooks, length, fuel, quota);
+        let mut watch = SearchWatch::new(signals.stop_flag(), hooks, length, most, quota);
         match self
             .searcher
-            .find_so_far(prefix.into_vec(), fuel, &mut watch)
+            .find_so_far(prefix.into_vec(), most, &mut watch)
         {
             Ok(Some((finding, count))) if !watch.is_called_off() => {
                 let made = if keeps { watch.made_visits() } else { count };
@@ -220,7 +220,7 @@ impl<'r, 't, 's, J: Run, C: Core + Drop, N: CellName, H: Gate + Follower, R: Wai
                 self.pace.note(length, finding.outcome(), made);
                 self.post(Searched { job, finding, run })
             }
-            Ok(_) => Turn::Ended(EndCause::Turns),
+            Ok(_) => Turn::Ended(EndCause::Stopped),
             Err(prefix) => self.end_unsearched(job, Numbers::from_vec(prefix)),
         }
     }

@@ -111,7 +111,12 @@ fn a_send_that_fails_is_a_loss(rt: HostRuntime) -> Result<(), Fail> {
         return Err(Fail::new("memory ran out"));
     };
     // (the registry may fall silent before the turns are over)
-    assert!(rt; matches!(cause, EndCause::Silence | EndCause::Turns) && dropped == 0);
+    assert!(rt;
+        matches!(
+            cause,
+            EndCause::Silence | EndCause::Turns | EndCause::Stopped
+        ) && dropped == 0
+    );
     assert!(rt; losses > 0 && losses == failures, "{losses} and {failures}");
     Ok(())
 }

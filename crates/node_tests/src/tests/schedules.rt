@@ -1,17 +1,20 @@
 //! When a site acts although nothing came, and what an idle worker does: scripts of what each is asked, with the answers expected.
 //!
-//! Of the bugs of `udp_node` that are kept outside the gate, `schedules` finds `greets_at_each_look`, `each_run_ends_after_a_day` and
+//! Of the bugs of `udp_node` that are kept outside the gate, `schedules` finds `greets_at_each_look`, `each_run_ends_after_half_a_day` and
 //! `says_again_as_often`, `time_that_a_process_was_held_up` finds `all_time_counts`, `idle_turns` finds
 //! `naps_of_20_microseconds`, `savings` finds `single_searches_show_savings`, `a_spared_worker_is_roused` finds
-//! `spared_workers_are_not_roused`, and `rooms` finds `each_worker_has_all_room`.
+//! `spared_workers_are_not_roused`, and `rooms` finds `each_worker_has_all_room`. Of those of `site_limits`, `a_run_ends_by_its_limit_or_by_a_site`
+//! finds `without_a_clock_there_is_no_limit`.
 
 use self::Step::{Announces, Ends, Greets, Hears, IsSilent, IsSpent, Repeats};
+use site_limits::Ending;
 use std::io;
 use std::sync::atomic::{AtomicU64, Ordering};
 use std::test::Fail;
 use std::time::{Clock, Duration, Instant};
 use udp_node::{
-    IdleTurn, Idleness, OwnTime, Plan, Savings, Schedule, Shown, Signals, Timing, room_for,
+    EndCause, IdleTurn, Idleness, OwnTime, Plan, Savings, Schedule, Shown, Signals, Timing,
+    room_for,
 };
 
 /// What a schedule is asked or told, at a time in milliseconds.
@@ -184,6 +187,34 @@ fn time_that_a_process_was_held_up(rt: HostRuntime) {
     for (shown, own) in LOOKS {
         clock.millis.store(shown, Ordering::SeqCst);
         assert_eq!(rt; time.look(&clock), micros(own), "{shown}");
+    }
+}
+
+/// A run's limit in milliseconds, if it has one, what a clock shows as the run begins and later, and why the run ends then, if it does.
+static LIMITS: [(Option<u64>, u64, u64, Option<EndCause>); 6] = [
+    (None, 0, 1_000_000, None),
+    (None, u64::MAX, u64::MAX, None),
+    (Some(500), 0, 499, None),
+    (Some(500), 0, 500, Some(EndCause::Time)),
+    // a clock that can't be read as the run begins, or later
+    (Some(500), u64::MAX, 0, Some(EndCause::Time)),
+    (Some(500), 0, u64::MAX, Some(EndCause::Time)),
+];
+
+#[test]
+fn a_run_ends_by_its_limit_or_by_a_site(rt: HostRuntime) {
+    let clock = ToldClock {
+        millis: AtomicU64::new(0),
+    };
+    for (limit, began, shown, cause) in LIMITS {
+        clock.millis.store(began, Ordering::SeqCst);
+        let ending = Ending::within(&clock, limit.map(Duration::from_millis), 1);
+        clock.millis.store(shown, Ordering::SeqCst);
+        assert_eq!(rt; ending.has_come(&clock), cause.is_some(), "{shown}");
+        ending.raise();
+        assert!(rt; ending.has_come(&clock));
+        let told = cause.unwrap_or(EndCause::Stopped);
+        assert_eq!(rt; ending.why_it_ends(&clock), told, "{shown}");
     }
 }
 

@@ -1,7 +1,7 @@
 //! What is written of a run that has come to no answer, by how its sites ended, and of one whose jobs can't be counted.
 //!
 //! Of the bugs of `cover_engines` that are kept outside the gate, `a_run_without_an_answer_tells_the_first_reason` finds
-//! `last_reason_stays`, `searches_are_summed` finds `visits_are_not_summed` and `shares_are_not_summed`, and
+//! `last_reason_stays` and `a_stopped_site_lacked_a_thread`, `searches_are_summed` finds `visits_are_not_summed` and `shares_are_not_summed`, and
 //! `jobs_that_can_not_be_counted_are_told_of_once` finds `each_uncounted_job_is_told_of` and `spent_jobs_are_told_of`.
 
 ghost use Rattle.std.specs.Prelude.{◌≤◌};
@@ -31,7 +31,7 @@ fn ended(cause: EndCause, is_manned: bool) -> SiteEnd {
 type Ended = (u8, EndCause, bool);
 
 /// Sites in the order in which they ended, and the line.
-static REASONS: [(&[Ended], &str); 11] = [
+static REASONS: [(&[Ended], &str); 13] = [
     (&[], "ended: nothing was published: try again, or answer\n"),
     (
         &[(0, EndCause::Over, true)],
@@ -54,12 +54,20 @@ static REASONS: [(&[Ended], &str); 11] = [
         "ended: out of memory: try fewer --nodes or --workers\n",
     ),
     (
-        &[(4, EndCause::Turns, false)],
+        &[(4, EndCause::Stopped, false)],
         "ended: a thread could not be started: try fewer --nodes or --workers\n",
+    ),
+    (
+        &[(4, EndCause::Stopped, true)],
+        "ended: a site was stopped by another: try again, or answer\n",
     ),
     (
         &[(2, EndCause::Turns, true)],
         "ended: the turns of a site are over: try more --turns\n",
+    ),
+    (
+        &[(1, EndCause::Time, false)],
+        "ended: the time is over: try more --seconds\n",
     ),
     (
         &[(1, EndCause::Silence, true)],
