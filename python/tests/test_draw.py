@@ -382,7 +382,7 @@ def test_written(trial: Drawing) -> None:
     link, target, pipe = trial.path("link.dlx"), trial.path("target.dlx"), trial.path("pipe")
     os.symlink(target, link)
     trial.python("generate", "queens", "--out", link, "4")
-    assert os.path.islink(link) and b"(generate.py queens 4)" in content(target), "a link's file"
+    assert os.path.islink(link) and b"(zarfepoch generate queens 4)" in content(target), "a link's file"
     os.mkfifo(pipe)
     reader = os.open(pipe, os.O_RDONLY | os.O_NONBLOCK)
     trial.python("generate", "queens", "4", "--out", pipe)

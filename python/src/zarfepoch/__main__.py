@@ -7,8 +7,9 @@ from collections.abc import Hashable
 from typing import Any, Optional
 
 from . import Colored, Word, solve
-from .cover_files import Unreadable, read_bytes, run, stop
+from .command_ends import run, stop
 from .solved import command_line, kind_missing, solve_kind
+from .whole_files import Unreadable, read_bytes
 
 
 def is_name(value: object) -> bool:

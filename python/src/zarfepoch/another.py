@@ -16,10 +16,11 @@ import sys
 from collections.abc import Iterator
 from typing import Optional
 
+from .command_ends import run, stop
 from .command_words import parser_of
-from .cover_files import lines_of, MAX_COLOURS, MAX_ITEMS, MAX_OCCURRENCES, MAX_OPTIONS, Problem, read_audited, read_bytes, read_problem, refusal
-from .cover_files import run, stop, Unreadable
+from .cover_files import lines_of, MAX_COLOURS, MAX_ITEMS, MAX_OCCURRENCES, MAX_OPTIONS, Problem, read_audited, read_problem, refusal
 from .search_parts import places_in, size_of, Tree
+from .whole_files import read_bytes, Unreadable
 
 # the words of an option
 Words = tuple[bytes, ...]

@@ -15,8 +15,10 @@ from __future__ import annotations
 
 import itertools
 
+from .command_ends import run, stop
 from .command_words import parser_of
-from .cover_files import read_bytes, read_problem, refusal, run, shown, stop, Unreadable
+from .cover_files import read_problem, refusal, shown
+from .whole_files import read_bytes, Unreadable
 
 # the words of each line
 Lines = list[list[bytes]]

@@ -8,7 +8,7 @@ import importlib
 from collections.abc import Callable
 from typing import NoReturn
 
-from .cover_files import run
+from .command_ends import run
 
 
 def command_of(module: str) -> Callable[[], NoReturn]:

@@ -4,23 +4,12 @@ The program decides what a file says. This reader stands beside it: it goes on a
 """
 from __future__ import annotations
 
-import contextlib
 import functools
-import io
-import os
 import re
-import shutil
-import signal
-import sys
-import tempfile
-from typing import BinaryIO, Callable, Iterator, NamedTuple, NoReturn, Optional, Sequence, Union
-
-from .command_words import as_called
+from typing import Iterator, NamedTuple, Optional, Sequence
 
 BAR, COLON, ILLEGAL = b"|", b":", b"\0:|"
 WITHOUT_LINE = {"NoItems", "BadHead", "WrongCount"}
-# kept options take some 15 MB at the limits below; a file of far more, by comments and options that are ignored, is not read here
-LARGEST = 1 << 26
 MAX_NAME, MAX_ITEMS, MAX_OPTIONS, MAX_OCCURRENCES, MAX_COLOURS = 32, 1_000, 20_000, 200_000, 10_000
 
 
@@ -48,53 +37,6 @@ class Option(NamedTuple):
 
 # the words of a line, and what a main function may answer
 Line = list[Word]
-Status = Union[int, str, None]
-
-
-class Unreadable(Exception):
-    """A file that can't be read; its text names the file and the cause."""
-
-
-class TooLarge(Unreadable):
-    """A file that is not read here, and that the program may read."""
-
-
-def all_bytes(opened: BinaryIO, path: str) -> bytes:
-    """All bytes of an opened file; `TooLarge` where there are more than a script reads."""
-    text = opened.read(LARGEST + 1)
-    if len(text) > LARGEST:
-        raise TooLarge(f"{path} has more than {LARGEST:,} bytes, and this script reads no more")
-    return text
-
-
-def standard_input() -> bytes:
-    """All bytes of the standard input; `Unreadable` where it is closed or refused by the system."""
-    if sys.stdin is None:
-        raise Unreadable("the standard input can't be read: it is closed")
-    try:
-        return all_bytes(sys.stdin.buffer, "the standard input")
-    except OSError as why:
-        raise Unreadable(f"the standard input can't be read: {why.strerror}") from None
-
-
-def read_bytes(path: str) -> bytes:
-    """All bytes of a file, or of the standard input, which is `-`; `Unreadable` where it is missing, a folder, too large, or refused
-    by the system."""
-    if path == "-":
-        return standard_input()
-    if os.path.isdir(path):
-        raise Unreadable(f"{path} can't be read: it is a folder")
-    try:
-        with open(path, "rb") as opened:
-            return all_bytes(opened, path)
-    except FileNotFoundError:
-        folder = os.path.dirname(path) or "."
-        where = "" if os.path.isdir(folder) else f", and neither is the folder {folder}"
-        raise Unreadable(f"{path} can't be read: there is no such file{where}") from None
-    except PermissionError:
-        raise Unreadable(f"{path} can't be read: this user may not read it") from None
-    except (OSError, ValueError) as why:
-        raise Unreadable(f"{path} can't be read: {getattr(why, 'strerror', None) or why}") from None
 
 
 @functools.lru_cache(maxsize=1 << 16)
@@ -366,89 +308,3 @@ def refusal(faults: Sequence[Fault]) -> str:
     """The first fault as the program tells it, without what stands before its name."""
     first = faults[0]
     return first.name if first.name in WITHOUT_LINE else f"{first.name} line {first.line}"
-
-
-def put(path: str, text: str) -> None:
-    """Writes a text into a file, whole or not at all."""
-    put_bytes(path, text.encode("utf-8"))
-
-
-def put_bytes(path: str, text: bytes) -> None:
-    """Writes a file whole or not at all; what is no plain file, as a device or a pipe, is written as it stands."""
-    if os.path.exists(path) and not os.path.isfile(path):
-        with open(path, "wb") as file:
-            file.write(text)
-        return
-    real = os.path.realpath(path)
-    # (a name that no other file and no other run has, in the same folder, since only there a new name takes no copy)
-    try:
-        handle, part = tempfile.mkstemp(prefix=".part-", dir=os.path.dirname(real))
-    except OSError as why:
-        raise OSError(why.errno, why.strerror, path) from None
-    try:
-        with open(handle, "wb") as file:
-            file.write(text)
-        os.chmod(part, 0o666 & ~umask())
-        if os.path.exists(real):
-            shutil.copymode(real, part)
-        os.replace(part, real)
-    finally:
-        with contextlib.suppress(OSError):
-            os.remove(part)
-
-
-def umask() -> int:
-    """The rights that this process takes from each new file. (It can only be read by setting it.)"""
-    own = os.umask(0o077)
-    os.umask(own)
-    return own
-
-
-def complain(why: object) -> None:
-    """Writes a line on standard error, if that is open."""
-    if sys.stderr is not None:
-        print(as_called(f"{os.path.basename(sys.argv[0]).removesuffix('.py')}: {why}"), file=sys.stderr)
-
-
-def stop(why: object, status: int = 2) -> NoReturn:
-    """Ends the script with this status and tells why."""
-    complain(why)
-    sys.exit(status)
-
-
-def status_of(main: Callable[[], Status]) -> Status:
-    """The exit status of a main function, whether it returns it or ends the script."""
-    try:
-        return main()
-    except SystemExit as ended:
-        return ended.code
-
-
-def run(main: Callable[[], Status]) -> NoReturn:
-    """Runs a script's main function to its exit status.
-
-    A reader that goes away, as `head` does, ends it quietly, with status 1. Where the standard output is closed or takes no more, or
-    memory runs out, standard error has a line, and the status is 3. A signal that ends it also ends the program that it runs.
-    """
-    signal.signal(signal.SIGTERM, lambda number, frame: sys.exit(128 + number))
-    if sys.stdout is None:
-        complain("the standard output can't be written: it is closed")
-        sys.exit(3)
-    if isinstance(sys.stdout, io.TextIOWrapper):
-        sys.stdout.reconfigure(errors="backslashreplace")
-    try:
-        status = status_of(main)
-        sys.stdout.flush()
-    except MemoryError:
-        complain("out of memory")
-        status = 3
-    except KeyboardInterrupt:
-        signal.signal(signal.SIGINT, signal.SIG_DFL)
-        os.kill(os.getpid(), signal.SIGINT)
-    except OSError as why:
-        # what is still buffered goes nowhere, so that the interpreter's own end doesn't fail once more
-        os.dup2(os.open(os.devnull, os.O_WRONLY), sys.stdout.fileno())
-        status = 1 if isinstance(why, BrokenPipeError) else 3
-        if status == 3:
-            complain(f"the standard output can't be written: {why.strerror}")
-    sys.exit(status)

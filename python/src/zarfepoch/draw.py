@@ -32,14 +32,16 @@ import argparse
 import sys
 from argparse import Namespace
 
+from .command_ends import complain, run, stop
 from .command_words import parser_of
-from .cover_files import Answer, Problem, Unreadable, complain, put, read_audited, read_bytes, read_problem, refusal, run, shown, stop
+from .cover_files import Answer, Problem, read_audited, read_problem, refusal, shown
 from .picture_base import Kind
 from .picture_kinds import picture_of
 from .plan_files import grid_of, timetable_of, write_each
 from .puzzle_texts import called
 from .svg_paper import Paper
 from .timetable_pictures import Timetable
+from .whole_files import Unreadable, put, read_bytes
 
 
 def title_of(text: bytes, file: str) -> str:

@@ -82,7 +82,8 @@ from . import number_grids
 from . import puzzles
 from . import sudokus
 from . import timetables
-from .cover_files import complain, MAX_COLOURS, MAX_ITEMS, MAX_NAME, MAX_OCCURRENCES, MAX_OPTIONS, put_bytes, run, shown, stop
+from .command_ends import complain, run, stop
+from .cover_files import MAX_COLOURS, MAX_ITEMS, MAX_NAME, MAX_OCCURRENCES, MAX_OPTIONS, shown
 from .fault_words import plural
 from .name_texts import as_seen, hint_alike, in_one_case, names_in, want_one_spelling, words_of
 from .pieces import filled, named_pieces, read_board, read_pieces
@@ -90,6 +91,7 @@ from .puzzle_texts import MISTAKE, Puzzle, blocks_of, called, no_cover, refuse, 
 from .puzzles import Refused
 from .timetable_plans import read_plan
 from .timetable_rules import read_school
+from .whole_files import put_bytes
 
 # a cell by row and column; two names; pieces by their names, as rows of x and dots or as words
 Cell = tuple[int, int]
@@ -660,7 +662,7 @@ def problems_of(given: Namespace, given_words: list[str]) -> list[Puzzle]:
     except Refused as why:
         # (the file is to be blamed, where the problem was made of one)
         stop(why, UNREADABLE if hasattr(given, "file") or given.kind == "sudoku" else MISTAKE)
-    return [told(f"{what} (generate.py {told_words(given_words)})", puzzle) for puzzle in found]
+    return [told(f"{what} (zarfepoch generate {told_words(given_words)})", puzzle) for puzzle in found]
 
 
 def command_line() -> argparse.ArgumentParser:

@@ -25,9 +25,11 @@ import sys
 from typing import NamedTuple, Optional
 
 from .certified_parts import NotRight, body_of, join_certificates, kind_of
+from .command_ends import complain, run, stop
 from .command_words import parser_of
-from .cover_files import Answer, Unreadable, complain, lines_of, read_bytes, refusal, run, shown, stop
+from .cover_files import Answer, lines_of, refusal, shown
 from .joined_certificates import JOINERS, PartText
+from .whole_files import Unreadable, read_bytes
 from .search_parts import (LIST, MOST_PARTS, WHOLE, Prefix, Split, Tree, answer_name, certificate_name, cover_text, list_text, part_name, path_in,
                            read_tree, split, texts_of)
 

@@ -5,7 +5,8 @@ import re
 import unicodedata
 from collections.abc import Callable, Iterable
 
-from .cover_files import complain, shown
+from .command_ends import complain
+from .cover_files import shown
 from .puzzle_texts import called, refuse, rows_of
 
 # letters whose marks are part of them, and the vowels that some write with an e behind in place of two dots

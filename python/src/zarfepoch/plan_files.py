@@ -5,10 +5,11 @@ import os
 import re
 from collections.abc import Iterable
 
-from .cover_files import put, stop
+from .command_ends import stop
 from .picture_base import Kind
 from .svg_paper import Paper
 from .timetable_pictures import draw_plans, Timetable
+from .whole_files import put
 
 # the longest name of a file here, in bytes and without what stands behind the dot
 LONGEST = 200

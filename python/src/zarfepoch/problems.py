@@ -17,6 +17,7 @@ from .even_room import even_room
 from .fault_words import fault_words
 from .programs import find_program, own_words, tied
 from .search_parts import part_text, places_in, Prefix, Tree
+from .whole_files import put_bytes
 
 # the program takes a limit of at most a million seconds
 MOST_SECONDS = 999_999
@@ -310,7 +311,7 @@ class Problem:
 
     def write(self, path: Union[str, os.PathLike[str]]) -> None:
         """Writes the problem's file, whole or not at all."""
-        cover_files.put_bytes(os.fspath(path), self.text())
+        put_bytes(os.fspath(path), self.text())
 
 
 class Asked:

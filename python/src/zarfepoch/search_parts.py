@@ -10,7 +10,9 @@ import collections
 import os
 from typing import Callable, Iterator, NamedTuple, NoReturn, Optional, Sequence
 
-from .cover_files import Option, Problem, Unreadable, read_bytes, read_problem, refusal, stop
+from .command_ends import stop
+from .cover_files import Option, Problem, read_problem, refusal
+from .whole_files import Unreadable, read_bytes
 
 WHOLE, LIST = "whole.dlx", "parts.txt"
 MOST_PARTS = 10_000

@@ -43,8 +43,9 @@ from . import generate
 from .all_covers import Covers
 from .another import free_name, others_of
 from .answers import Answered, answered, planned, TRY_SECONDS
+from .command_ends import complain, stop
 from .command_words import as_called, parser_of
-from .cover_files import complain, Problem, put, read_audited, read_problem, stop
+from .cover_files import Problem, read_audited, read_problem
 from .draw import add_tables, planned as planned_picture, write_out, write_plans
 from .errors import NoProgram, OutOfMemory, ProgramError, TimeIsUp
 from .even_room import any_reason
@@ -61,6 +62,7 @@ from .svg_paper import Paper
 from .timetable_plans import Plan, read_plan
 from .timetables import Timetable, note_size
 from .weeks import in_order
+from .whole_files import put
 from .why_none import in_words, told_lines
 
 # a lesson by its title and its classes, in a period

@@ -22,10 +22,11 @@ import shutil
 import tempfile
 from typing import Iterable
 
+from .command_ends import run, stop
 from .command_words import as_called, number_from_one, parser_of
-from .cover_files import run, stop, umask
 from .fault_words import plural
 from .search_parts import LIST, MOST_PARTS, WHOLE, Split, list_text, part_name, path_in, read_tree, split, texts_of
+from .whole_files import umask
 
 
 def number_of_parts(text: str) -> int:

@@ -29,7 +29,8 @@ from collections.abc import Collection, Iterable, Iterator
 from dataclasses import dataclass, field, replace
 from typing import NamedTuple, Optional
 
-from .cover_files import complain, MAX_ITEMS, MAX_NAME, MAX_OPTIONS
+from .command_ends import complain
+from .cover_files import MAX_ITEMS, MAX_NAME, MAX_OPTIONS
 from .puzzle_texts import Puzzle, refuse
 from .timetable_files import Lesson
 from .timetable_plans import MOVED, Plan, preference

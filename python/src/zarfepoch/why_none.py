@@ -26,8 +26,9 @@ import sys
 from collections.abc import Iterator
 from typing import Callable, Optional
 
+from .command_ends import complain, run, stop
 from .command_words import parser_of
-from .cover_files import complain, Problem, Unreadable, put, read_bytes, read_problem, refusal, run, shown, stop
+from .cover_files import Problem, read_problem, refusal, shown
 from .cover_reason import Named, Reason, clash
 from .draw_reason import reason_svg
 from .even_room import any_reason
@@ -35,6 +36,7 @@ from .fault_words import listed, plural, quoted
 from .full_names import named_numbers
 from .picture_kinds import Matching, picture_of, Plain, Triples
 from .programs import is_program, known_program, missing_program
+from .whole_files import Unreadable, put, read_bytes
 
 # the exit status and the first word of each answer
 NONE, COVER, SPENT, OUT_OF_MEMORY = (1, b"none"), (0, b"cover"), (4, b"no"), (5, b"")
