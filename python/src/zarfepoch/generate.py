@@ -6,6 +6,7 @@
 
     queens 12                      queens on a board of 12 by 12
     langford 8                     pairs of 1 to 8
+    triples 7                      lines of three points, any two of 7 points on one line
     pentominoes 5x12               pieces on a rectangle; --without 3,3 3,4 leaves cells out
     tetrominoes 4x4                the same of four cells each
     dominoes 8x8                   dominoes on a rectangle; --without 0,0 7,7 leaves two corners out
@@ -27,7 +28,6 @@
     kenken FILE                    a letter of its cage for each cell, an empty line, and what cages make: a=12+ b=24x c=3- d=2/ e=4
     binairo FILE                   rows of 0, 1 and dots: as many of each in each row and column, no three alike side by side, no two rows or
                                    columns alike; --alike lets these be alike
-    triples 7                      lines of three points, any two of 7 points on one line
     coloring FILE                  a map's borders, two names a line; --colors red,green,blue; a line as Tirol=red gives a place its colour
     matching FILE                  a graph's edges, two names a line
     timetable FILE.csv             a row for each lesson: lesson,teacher,class,rooms,periods, and what else is wanted of times,length,a_day,apart,
@@ -598,8 +598,8 @@ KINDS: dict[str, Callable[[Namespace], Made]] = {
     "triples": lambda given: (f"lines of three points, any two of {given.n} points on one line", [triples(given.n)]),
     "pentominoes": lambda given: ("pentominoes, each at most once, fill a board", [polyominoes(given)]),
     "tetrominoes": lambda given: ("tetrominoes, each at most once, fill a board", [polyominoes(given)]),
-    "board": lambda given: ("pieces fill a board", [filled_board(given)]),
     "dominoes": lambda given: ("dominoes fill a board", [dominoes(board(given))]),
+    "board": lambda given: ("pieces fill a board", [filled_board(given)]),
     "sudoku": lambda given: (
         "a sudoku: its empty cells, and what rows, columns and boxes still lack",
         [sudokus.read_sudoku(given.given, is_typed(given.given), given.diagonals, given.boxes, given.hyper).puzzle()]),
