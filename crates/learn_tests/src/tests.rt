@@ -7,7 +7,7 @@ mod memory;
 use dlx_reader::{CountedReader, CountedWriter};
 use learn_engine::{LearnProgress, learn_engine};
 use learner::{Figures, LearnerWatch, Settings};
-use search_engines::{EngineEnd, EngineFault, Failure, Unanswered, tell_end};
+use search_engines::{InputNames, Unanswered, tell_end};
 use std::alloc::Global;
 
 /// Seven items and six options, of which 3, 4 and 0 are the one exact cover.
@@ -33,10 +33,11 @@ impl RunOutput {
     }
 }
 
-/// How an engine ended, without what a message names beside its fault.
-fn plain(ended: Result<EngineEnd, Failure>) -> Result<EngineEnd, EngineFault> {
-    Ok(ended?)
-}
+/// The name of the file that an engine reads.
+const NAMES: InputNames<'static> = InputNames {
+    file: "p.dlx",
+    answer: None,
+};
 
 /// A watch that stops a learner at its first look, or at none.
 #[derive(Drop)]
@@ -64,7 +65,7 @@ fn learn(alloc: Global, text: &str, stops: bool) -> RunOutput {
         &mut sink,
         &mut Watch { stops },
     );
-    let status = tell_end(&plain(ended), &mut CountedWriter::new(&mut errors));
+    let status = tell_end(&ended, NAMES, &mut CountedWriter::new(&mut errors));
     RunOutput {
         out,
         errors,

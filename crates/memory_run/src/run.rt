@@ -7,10 +7,11 @@ ghost use Rattle.run_book.specs.Runs.{IsRunEnd};
 
 use crate::waiting_link::{WaitingLink, Wakers};
 use audit::{Clean, Unclean, audit};
-use cover_engines::{EngineFault, SolveEnd, solve_engine};
+use cover_engines::{SolveEnd, solve_engine};
 use cover_problem::{Answer, Problem};
 use run_book::{Book, Run, a_book_tells_what_is_published};
 use run_settings::{Mode, Settings};
+use search_engines::EngineFault;
 use std::alloc::{AllocError, Global};
 use std::marker::Brand;
 use std::sync::atomic::AtomicBool;

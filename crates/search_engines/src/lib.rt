@@ -47,7 +47,7 @@ pub use progress_watch::{EndWatch, ProgressWatch};
 pub use search_limits::{SearchLimits, TimeLimit};
 pub use stopwatch::Stopwatch;
 pub use telling::{
-    InputNames, tell, tell_end, tell_end_of, tell_failure, tell_fault, tell_unbound, tell_unopened,
+    InputNames, tell, tell_end, tell_failure, tell_fault, tell_unbound, tell_unopened,
 };
 pub use timed_watch::TimedWatch;
 pub use tree_estimate::TreeEstimate;

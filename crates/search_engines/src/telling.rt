@@ -74,16 +74,6 @@ pub fn tell_fault<E: Sink>(fault: &EngineFault, sink: &mut E) -> u8
     }
 }
 
-/// Reports how an engine ended, and returns the exit status: of its answer, or as `tell_fault` does.
-pub fn tell_end<E: Sink>(ended: &Result<EngineEnd, EngineFault>, sink: &mut E) -> u8
-    ensures { result ≡ end_status ended.now }
-{
-    match ended {
-        Ok(end) => tell(end.status, end.ignored, sink),
-        Err(fault) => tell_fault(fault, sink),
-    }
-}
-
 /// The names of the files that an engine reads.
 #[derive(Clone, Copy, Debug, PartialEq, Eq)]
 pub struct InputNames<'a> {
@@ -124,8 +114,8 @@ pub fn tell_failure<E: Sink>(failure: &Failure, names: InputNames<'_>, sink: &mu
     }
 }
 
-/// Does what `tell_end` does, and names the file if a read failed, and the name that no item has.
-pub fn tell_end_of<E: Sink>(
+/// Reports how an engine ended, and returns the exit status: of its answer, or as `tell_failure` does.
+pub fn tell_end<E: Sink>(
     ended: &Result<EngineEnd, Failure>,
     names: InputNames<'_>,
     sink: &mut E,

@@ -6,16 +6,15 @@ use crate::certificate_place::CertificatePlace;
 use crate::certified_answer::certify_answer;
 use crate::{Input, learner_settings, line_style, output, tell_ended};
 use certificate_writer::{CaseWriter, CertificateFate, CertifyingWatch, ClauseWriter};
-use cover_engines::{
-    EngineFault, ProgressLog, SearchLimits, Written, ended_with, names_of, read_whole, tell_failure,
-};
+use cover_engines::names_of;
 use cover_problem::Problem;
 use dlx_reader::{CountedWriter, Read, Sink};
 use learn_engine::{LearnWatch, learn_problem};
 use reason_engine::why_problem;
 use run_settings::{Mode, Request};
 use search_engines::{
-    EndWatch, ProgressWatch, TimedWatch, write_certified, write_certified_within,
+    EndWatch, EngineFault, ProgressLog, ProgressWatch, SearchLimits, TimedWatch, Written,
+    ended_with, read_whole, tell_failure, write_certified, write_certified_within,
 };
 use std::fs::File;
 use std::sync::Wait;

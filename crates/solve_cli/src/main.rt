@@ -13,15 +13,8 @@ use certificate_engine::{begins_certificate, certificate_engine};
 use certified::{Asked, run_certified};
 use command_line::request;
 pub use command_line::{SettingsFault, settings};
-pub use cover_engines::{
-    AloneEnd, CheckEnd, EngineFault, SimulateEnd, SolveEnd, alone_engine, check_engine,
-    simulate_engine, solve_engine, tell, tell_fault,
-};
-use cover_engines::{
-    EngineEnd, Failure, LineStyle, Loopback, Machine, ProgressLog, SearchLimits, TimeLimit,
-    USUAL_BOOK_BYTES, Unread, alone_within, book_bytes_of, check_within, names_of, read_input,
-    simulate_source, tell_end_of, tell_unanswered, tell_unopened,
-};
+use cover_engines::{Loopback, Machine, USUAL_BOOK_BYTES, book_bytes_of, names_of};
+pub use cover_engines::{SolveEnd, solve_engine};
 use dlx_reader::{CountedReader, CountedWriter, Sink};
 use either::Either;
 use learn_engine::LearnWatch;
@@ -29,6 +22,13 @@ pub use learn_engine::{LearnEnd, learn_engine};
 pub use reason_engine::{WhyEnd, why_engine};
 pub use run_settings::{Mode, Settings};
 use run_settings::{Request, STANDARD_INPUT};
+pub use search_engines::{
+    AloneEnd, CheckEnd, EngineFault, alone_engine, check_engine, tell, tell_fault,
+};
+use search_engines::{
+    EngineEnd, Failure, LineStyle, ProgressLog, SearchLimits, TimeLimit, Unread, alone_within,
+    check_within, read_input, tell_end, tell_unanswered, tell_unopened,
+};
 use std::env;
 use std::fs::{self, File};
 use std::io::{self, ErrorKind, IsTerminal, Stdin, Stdout};
@@ -37,6 +37,8 @@ use std::process::ExitCode;
 use std::sync::Wait;
 use std::thread::{self, Threads};
 use std::time::{Clock, Duration};
+use world_engine::simulate_source;
+pub use world_engine::{SimulateEnd, simulate_engine};
 
 /// What is read: a file, or standard input.
 type Input = CountedReader<Either<File, Stdin>>;
@@ -106,7 +108,7 @@ fn tell_ended<E: Sink>(
     settings: &Settings<'_>,
     errors: &mut E,
 ) -> u8 {
-    let status = tell_end_of(ended, names_of(settings), errors);
+    let status = tell_end(ended, names_of(settings), errors);
     tell_unanswered(ended, errors);
     status
 }

@@ -16,12 +16,13 @@ mod starved;
 
 ghost use Rattle.std.specs.Prelude.{◌≡◌, ◌≤◌};
 
-use cover_engines::{LineStyle, Loopback, Machine, Network, USUAL_BOOK_BYTES, links, solve_engine};
+use cover_engines::{Loopback, Machine, Network, USUAL_BOOK_BYTES, links, solve_engine};
 use cover_problem::Problem;
 use dlx_reader::{CountedReader, CountedWriter, read_problem};
 use run_book::Run;
 use run_key::RunKey;
 use run_settings::{Mode, Request, Settings};
+use search_engines::LineStyle;
 use std::alloc::Global;
 use std::marker::Brand;
 use std::net::Net;
@@ -254,12 +255,12 @@ const BOUNDED: Settings<'static> = Settings {
     audit: false,
 };
 
-/// Workers that visit each state again that they meet would fill any book.
+/// Workers that visit each state again that they meet would search for centuries, so the run has a limit, of some hundred times what it takes.
 #[test]
 fn a_run_in_which_states_repeat_ends(rt: HostRuntime) {
     let request = Request {
         settings: BOUNDED,
-        seconds: None,
+        seconds: Some(40),
         megabytes: None,
         progress: false,
         unlimited: false,

@@ -3,7 +3,7 @@
 use super::PAIRS;
 use certificate_engine::certificate_engine;
 use dlx_reader::{CountedReader, CountedWriter};
-use search_engines::{EngineEnd, EngineFault, Failure, tell_end};
+use search_engines::{InputNames, tell_end};
 use std::alloc::Global;
 
 /// What is written to both outputs, and the status.
@@ -23,10 +23,11 @@ impl RunOutput {
     }
 }
 
-/// How an engine ended, without what a message names beside its fault.
-fn plain(ended: Result<EngineEnd, Failure>) -> Result<EngineEnd, EngineFault> {
-    Ok(ended?)
-}
+/// The names of the files that the engine reads.
+const NAMES: InputNames<'static> = InputNames {
+    file: "p.dlx",
+    answer: Some("p.cert"),
+};
 
 /// Tests a certificate of a problem and returns what is written.
 fn check(alloc: Global, problem: &str, certificate: &str) -> RunOutput {
@@ -35,7 +36,7 @@ fn check(alloc: Global, problem: &str, certificate: &str) -> RunOutput {
     let mut file = CountedReader::new(problem.as_bytes());
     let mut sink = CountedWriter::new(&mut out);
     let ended = certificate_engine(alloc, &mut file, certificate.as_bytes(), &mut sink);
-    let status = tell_end(&plain(ended), &mut CountedWriter::new(&mut errors));
+    let status = tell_end(&ended, NAMES, &mut CountedWriter::new(&mut errors));
     RunOutput {
         out,
         errors,

@@ -3,10 +3,10 @@
 ghost use Rattle.std.specs.Prelude.{◌≤◌};
 
 use super::long::{lines, names};
-use super::run_output::RunOutput;
+use super::run_output::{RunOutput, tell_plain};
 use super::texts::{LETTERS, NO_COVER};
 use dlx_reader::{CountedReader, CountedWriter};
-use search_engines::{alone_engine, tell_end};
+use search_engines::alone_engine;
 use std::alloc::Global;
 use std::process::Abort;
 
@@ -19,7 +19,7 @@ pub fn alone(alloc: Global, text: &str, fuel: u64) -> RunOutput
     let mut source = CountedReader::new(text.as_bytes());
     let ended = alone_engine(alloc, fuel, &mut source, &mut CountedWriter::new(&mut out));
     let mut sink = CountedWriter::new(&mut errors);
-    let status = tell_end(&ended, &mut sink);
+    let status = tell_plain(&ended, &mut sink);
     RunOutput {
         out,
         errors,

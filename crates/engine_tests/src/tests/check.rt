@@ -5,10 +5,10 @@
 ghost use Rattle.std.specs.Prelude.{◌≤◌};
 
 use super::boards::board;
-use super::run_output::RunOutput;
+use super::run_output::{RunOutput, tell_plain};
 use super::texts::{LETTERS, NO_COVER};
 use dlx_reader::{CountedReader, CountedWriter};
-use search_engines::{check_engine, tell_end};
+use search_engines::check_engine;
 use std::alloc::Global;
 use std::process::Abort;
 
@@ -28,7 +28,7 @@ pub fn check(alloc: Global, text: &str, answer: &str, fuel: u64) -> RunOutput
         &mut CountedWriter::new(&mut out),
     );
     let mut sink = CountedWriter::new(&mut errors);
-    let status = tell_end(&ended, &mut sink);
+    let status = tell_plain(&ended, &mut sink);
     RunOutput {
         out,
         errors,

@@ -2,9 +2,9 @@
 
 ghost use Rattle.std.specs.Prelude.{◌≤◌};
 
-use super::run_output::RunOutput;
+use super::run_output::{RunOutput, tell_plain};
 use dlx_reader::{CountedReader, CountedWriter};
-use search_engines::{alone_engine, check_engine, tell_end};
+use search_engines::{alone_engine, check_engine};
 use std::alloc::Global;
 
 /// The problem of Knuth's DLX2: one cover.
@@ -25,7 +25,7 @@ fn alone(alloc: Global, text: &str, fuel: u64) -> RunOutput
     let mut errors = Vec::new(alloc);
     let mut source = CountedReader::new(text.as_bytes());
     let ended = alone_engine(alloc, fuel, &mut source, &mut CountedWriter::new(&mut out));
-    let status = tell_end(&ended, &mut CountedWriter::new(&mut errors));
+    let status = tell_plain(&ended, &mut CountedWriter::new(&mut errors));
     RunOutput {
         out,
         errors,
@@ -41,7 +41,7 @@ fn check(alloc: Global, text: &str, answer: &str) -> RunOutput {
     let mut source = CountedReader::new(answer.as_bytes());
     let mut sink = CountedWriter::new(&mut out);
     let ended = check_engine(alloc, 1, &mut file, &mut source, &mut sink);
-    let status = tell_end(&ended, &mut CountedWriter::new(&mut errors));
+    let status = tell_plain(&ended, &mut CountedWriter::new(&mut errors));
     RunOutput {
         out,
         errors,

@@ -2,7 +2,7 @@
 
 use super::run_output::{NAMES, RunOutput};
 use dlx_reader::{CountedReader, CountedWriter};
-use search_engines::{LineStyle, ProgressLog, SearchLimits, alone_within, tell_end_of};
+use search_engines::{LineStyle, ProgressLog, SearchLimits, alone_within, tell_end};
 use std::alloc::{AllocError, Global};
 use std::test::Fail;
 use std::time::Clock;
@@ -17,7 +17,7 @@ fn alone<C: Clock>(clock: &C, alloc: Global, text: &[u8]) -> RunOutput {
     let limits = SearchLimits::new(None, None);
     let log = ProgressLog::new(&mut error_sink, LineStyle::Silent);
     let ended = alone_within(clock, alloc, &limits, &mut source, &mut sink, log);
-    let status = tell_end_of(&ended, NAMES, &mut error_sink);
+    let status = tell_end(&ended, NAMES, &mut error_sink);
     RunOutput {
         out,
         errors,

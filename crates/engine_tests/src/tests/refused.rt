@@ -5,13 +5,13 @@
 
 ghost use Rattle.std.specs.Prelude.{◌≤◌};
 
-use super::run_output::{RunOutput, plain};
+use super::run_output::{RunOutput, plain, tell_plain};
 use super::{alone, check, within};
 use dlx_reader::{CountedReader, CountedWriter};
 use growth_marks::{begin, end};
 use search_engines::{
     AloneEnd, EngineFault, LineStyle, ProgressLog, SearchLimits, alone_engine, alone_within,
-    check_engine, check_within, tell_end,
+    check_engine, check_within,
 };
 use std::alloc::Global;
 use std::process::Abort;
@@ -46,7 +46,7 @@ fn is_refused<R: Abort>(
 fn output_of(alloc: Global, out: Vec<u8>, ended: &Result<AloneEnd, EngineFault>) -> RunOutput {
     let mut errors = Vec::new(alloc);
     let mut sink = CountedWriter::new(&mut errors);
-    let status = tell_end(ended, &mut sink);
+    let status = tell_plain(ended, &mut sink);
     RunOutput {
         out,
         errors,

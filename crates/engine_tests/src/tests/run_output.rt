@@ -1,6 +1,7 @@
 //! What an engine writes.
 
-use search_engines::{EngineEnd, EngineFault, Failure, InputNames};
+use dlx_reader::Sink;
+use search_engines::{EngineEnd, EngineFault, Failure, InputNames, tell, tell_fault};
 
 /// The names of the files that an engine reads.
 pub const NAMES: InputNames<'static> = InputNames {
@@ -11,6 +12,14 @@ pub const NAMES: InputNames<'static> = InputNames {
 /// How an engine ended, without what a message names beside its fault.
 pub fn plain(ended: Result<EngineEnd, Failure>) -> Result<EngineEnd, EngineFault> {
     Ok(ended?)
+}
+
+/// Reports how an engine ended whose fault names nothing, and returns the exit status.
+pub fn tell_plain<E: Sink>(ended: &Result<EngineEnd, EngineFault>, sink: &mut E) -> u8 {
+    match ended {
+        Ok(end) => tell(end.status, end.ignored, sink),
+        Err(fault) => tell_fault(fault, sink),
+    }
 }
 
 /// What is written to both outputs, and the status.

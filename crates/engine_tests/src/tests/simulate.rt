@@ -1,10 +1,9 @@
 //! `simulate` over texts in memory: whatever is drawn, it answers as a search would.
 
-use super::run_output::RunOutput;
+use super::run_output::{RunOutput, tell_plain};
 use super::texts::{LETTERS, NO_COVER};
 use dlx_reader::{CountedReader, CountedWriter};
 use run_settings::{Mode, Settings};
-use search_engines::tell_end;
 use std::alloc::Global;
 use std::process::Abort;
 use world_engine::simulate_engine;
@@ -21,7 +20,7 @@ fn simulate(alloc: Global, text: &str, settings: &Settings<'_>) -> RunOutput {
         &mut CountedWriter::new(&mut out),
     );
     let mut sink = CountedWriter::new(&mut errors);
-    let status = tell_end(&ended, &mut sink);
+    let status = tell_plain(&ended, &mut sink);
     RunOutput {
         out,
         errors,

@@ -4,7 +4,7 @@
 //! `a_walk_decides_without_a_search` finds `no_walk_beside_the_search`.
 
 use super::long::names;
-use super::run_output::{RunOutput, plain};
+use super::run_output::{NAMES, RunOutput};
 use super::texts::{LETTERS, NO_COVER};
 use dlx_reader::{CountedReader, CountedWriter};
 use search_engines::{LineStyle, ProgressLog, SearchLimits, alone_within, check_within, tell_end};
@@ -22,7 +22,7 @@ fn alone<C: Clock>(clock: &C, alloc: Global, text: &str) -> RunOutput {
     let limits = SearchLimits::new(None, None);
     let log = ProgressLog::new(&mut error_sink, LineStyle::Silent);
     let ended = alone_within(clock, alloc, &limits, &mut source, &mut sink, log);
-    let status = tell_end(&plain(ended), &mut error_sink);
+    let status = tell_end(&ended, NAMES, &mut error_sink);
     RunOutput {
         out,
         errors,
@@ -39,7 +39,7 @@ fn check<C: Clock>(clock: &C, alloc: Global, text: &str, answer: &str) -> RunOut
     let mut sink = CountedWriter::new(&mut out);
     let limits = SearchLimits::new(None, None);
     let ended = check_within(clock, alloc, &limits, &mut file, &mut answer, &mut sink);
-    let status = tell_end(&plain(ended), &mut CountedWriter::new(&mut errors));
+    let status = tell_end(&ended, NAMES, &mut CountedWriter::new(&mut errors));
     RunOutput {
         out,
         errors,

@@ -2,7 +2,7 @@
 //!
 //! Of the bugs of `reason_engine` that are kept outside the gate, `why_writes_reasons` finds `no_reason_is_looked_for`.
 
-use super::run_output::{RunOutput, plain};
+use super::run_output::{NAMES, RunOutput};
 use super::texts::{LETTERS, NO_COVER};
 use dlx_reader::{CountedReader, CountedWriter};
 use reason_engine::why_engine;
@@ -15,7 +15,7 @@ fn why(alloc: Global, text: &str) -> RunOutput {
     let mut errors = Vec::new(alloc);
     let mut source = CountedReader::new(text.as_bytes());
     let ended = why_engine(alloc, &mut source, &mut CountedWriter::new(&mut out));
-    let status = tell_end(&plain(ended), &mut CountedWriter::new(&mut errors));
+    let status = tell_end(&ended, NAMES, &mut CountedWriter::new(&mut errors));
     RunOutput {
         out,
         errors,

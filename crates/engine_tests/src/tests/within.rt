@@ -8,7 +8,7 @@ use super::texts::{LETTERS, NO_COVER};
 use dlx_reader::{CountedReader, CountedWriter};
 use search_engines::{
     EngineEnd, Failure, InputNames, LineStyle, ProgressLog, SearchLimits, TimeLimit, Unanswered,
-    Unread, alone_within, check_within, tell_end_of, tell_unanswered, tell_unopened,
+    Unread, alone_within, check_within, tell_end, tell_unanswered, tell_unopened,
 };
 use std::alloc::Global;
 use std::io::ErrorKind;
@@ -37,7 +37,7 @@ pub fn alone<C: Clock>(clock: &C, alloc: Global, text: &str, limits: &SearchLimi
     let mut error_sink = CountedWriter::new(&mut errors);
     let log = ProgressLog::new(&mut error_sink, LineStyle::Silent);
     let ended = alone_within(clock, alloc, limits, &mut source, &mut sink, log);
-    let status = tell_end_of(&ended, NAMES, &mut error_sink);
+    let status = tell_end(&ended, NAMES, &mut error_sink);
     RunOutput {
         out,
         errors,
@@ -59,7 +59,7 @@ pub fn check<C: Clock>(
     let mut answer = CountedReader::new(answer.as_bytes());
     let mut sink = CountedWriter::new(&mut out);
     let ended = check_within(clock, alloc, limits, &mut file, &mut answer, &mut sink);
-    let status = tell_end_of(&ended, NAMES, &mut CountedWriter::new(&mut errors));
+    let status = tell_end(&ended, NAMES, &mut CountedWriter::new(&mut errors));
     RunOutput {
         out,
         errors,
@@ -334,7 +334,7 @@ fn a_file_that_cannot_be_read_is_named(rt: HostRuntime) {
             answer: Some("r"),
         };
         let ended = Err(Failure::Unread(*which));
-        let status = tell_end_of(&ended, names, &mut CountedWriter::new(&mut errors));
+        let status = tell_end(&ended, names, &mut CountedWriter::new(&mut errors));
         assert!(rt;
             status == 3 && errors.as_slice() == line.as_bytes(),
             "{line}"

@@ -2,7 +2,7 @@
 //!
 //! Of the bugs of `answer_engine` that are kept outside the gate, `two_threads_find_a_reason` finds `no_reason_on_two_threads`.
 
-use super::{LETTERS, NO_COVER, RunOutput, plain};
+use super::{LETTERS, NAMES, NO_COVER, RunOutput};
 use answer_engine::{Basis, Task, answer_engine};
 use dlx_reader::{CountedReader, CountedWriter};
 use search_engines::{LineStyle, ProgressLog, TimeLimit, tell_end};
@@ -25,7 +25,7 @@ fn answered<R: Threads + Wait + Clock + Sync>(
     let mut told = CountedWriter::new(&mut errors);
     let log = ProgressLog::new(&mut told, style);
     let ended = answer_engine(task, &mut source, &mut sink, log);
-    let status = tell_end(&plain(ended), &mut told);
+    let status = tell_end(&ended, NAMES, &mut told);
     RunOutput {
         out,
         errors,

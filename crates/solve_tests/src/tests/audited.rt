@@ -1,9 +1,10 @@
 //! What is written of an answer and of what an audit found, which no run of sites that keep to the protocol comes to.
 
 use audit::{Clean, Unclean};
-use cover_engines::{AuditFinding, EngineFault, write_audited};
+use cover_engines::{AuditFinding, write_audited};
 use cover_problem::Answer;
 use dlx_reader::{CountedWriter, read_problem};
+use search_engines::EngineFault;
 use spawn_frame::Site;
 use std::alloc::Global;
 use std::test::Fail;

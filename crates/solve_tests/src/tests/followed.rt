@@ -7,9 +7,10 @@
 ghost use Rattle.std.specs.Prelude.{◌≤◌};
 
 use brancher::{Finding, ROOM, Searcher, Tables, Unwatched};
-use cover_engines::{FollowedRun, LineStyle, ProgressLog, QuietRun};
+use cover_engines::{FollowedRun, QuietRun};
 use cover_problem::{Problem, is_prefix};
 use dlx_reader::{CountedWriter, Sink, read_problem};
+use search_engines::{LineStyle, ProgressLog};
 use std::alloc::{AllocError, Global};
 use std::io::Write;
 use std::sync::Wait;

@@ -6,12 +6,13 @@ ghost use Rattle.std.specs.Prelude.{◌≡◌, ◌+◌, ℕ, length, vec_len, If
 ghost use Rattle.site_network.specs.Links.{failed_once};
 
 use super::{ROWS, settings};
-use cover_engines::{EngineFault, links, solve_engine};
+use cover_engines::{links, solve_engine};
 use cover_problem::Problem;
 use dlx_reader::read_problem;
 use run_book::Run;
 use run_key::RunKey;
 use run_settings::Settings;
+use search_engines::EngineFault;
 use std::alloc::{AllocError, Global};
 use std::marker::Brand;
 use std::net::Net;
