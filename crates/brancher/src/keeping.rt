@@ -153,20 +153,24 @@ fn step_plainly<B: Branching, W: Watch>(
     match visit_prefix(state, left, pause, watch) {
         Visit::Barren(rest) => {
             kept.made(left.saturating_sub(rest));
-            watch.made(left.saturating_sub(rest), rest);
             turn(state, base, rest, kept)
         }
         // (this is the pause: a watch stops a visit only while more is left)
         Visit::Stopped(rest) if rest <= pause => {
             kept.made(left.saturating_sub(rest));
-            watch.made(left.saturating_sub(rest), rest);
             // (the plain loop notes nothing, so from here on the notes are of prefixes that the search has left)
             kept.forget_from(depth);
             SearchStep::On(rest)
         }
-        Visit::Stopped(rest) => SearchStep::End(Visit::Stopped(rest)),
+        Visit::Stopped(rest) => {
+            kept.made(left.saturating_sub(rest));
+            SearchStep::End(Visit::Stopped(rest))
+        }
         Visit::Found => SearchStep::End(Visit::Found),
-        Visit::Spent => SearchStep::End(Visit::Spent),
+        Visit::Spent => {
+            kept.made(left);
+            SearchStep::End(Visit::Spent)
+        }
     }
 }
 
@@ -250,7 +254,7 @@ fn turn_onward<B: Branching>(state: &mut B, base: usize, left: u64, kept: &mut K
 }
 
 /// Keeps that there is no cover below the chosen options, and how many visits that took, where it is noted what was left when they were
-/// come to.
+/// come to, and unless the search is in its first visits.
 #[inline(always)]
 fn keep_barren<B: Branching>(state: &B, left: u64, kept: &mut Kept)
     requires { length (B.choices state.now).chosen < length kept.old.entered }
@@ -263,6 +267,9 @@ fn keep_barren<B: Branching>(state: &B, left: u64, kept: &mut Kept)
 {
     // (for what the getter says: that the problem is lawful)
     state.problem();
+    if kept.is_early() {
+        return;
+    }
     if let Some(visits) = kept.since(state.chosen().len(), left) {
         kept.keep(state, visits);
     }

@@ -1,6 +1,7 @@
 //! What the searches of a problem keep.
 //!
 //! Once all options below a prefix were tried in vain, its state is kept where
+//! - `Trials` says that the search isn't in its first visits any more, in which it doesn't look either;
 //! - what was left on coming to it is noted: `Trials` says down to which depth the table is asked, and the loop that keeps nothing drops the
 //!   notes behind it. A search without fuel keeps what it looked for on its way, and what another worker found needs no note;
 //! - it took `LEAST_VISITS` or more, those that were skipped counted. Whoever traces a search may say fewer, and so leave a state out;
@@ -91,6 +92,12 @@ impl Kept {
         self.trials.until_trial()
     }
 
+    /// Whether the search is in its first visits, in which it neither looks for states nor keeps them.
+    #[inline(always)]
+    pub fn is_early(&self) -> bool {
+        self.trials.is_early()
+    }
+
     /// Whether the watch is to look now.
     #[inline(always)]
     pub fn is_watch_due<W: Watch>(&mut self, watch: &W) -> bool
@@ -132,13 +139,16 @@ impl Kept {
         }
     }
 
-    /// How many visits were kept of the chosen options, if they were.
+    /// How many visits were kept of the chosen options, if they were, and the search looks already.
     #[inline(always)]
     pub fn look<B: Branching>(&mut self, state: &B) -> Option<u64>
         ensures unchanged { self.new ≡ self.old }
         ensures known { IfSome result (IsKnown (B.choices state.now).problem
             (B.choices state.now).chosen self.old.states) }
     {
+        if self.trials.is_early() {
+            return None;
+        }
         if !state.write_key(&mut self.key) {
             return None;
         }
@@ -149,7 +159,7 @@ impl Kept {
         Some(visits)
     }
 
-    /// Keeps so many visits of the chosen options, unless they are few.
+    /// Keeps so many visits of the chosen options, unless they are few; from then on the search looks.
     #[inline(always)]
     pub fn keep<B: Branching>(&mut self, state: &B, visits: u64)
         ensures entered { self.new.entered ≡ self.old.entered }
@@ -161,6 +171,7 @@ impl Kept {
         if visits < LEAST_VISITS {
             return;
         }
+        self.trials.begin_looks();
         if !state.write_key(&mut self.key) {
             return;
         }

@@ -5,6 +5,8 @@
 //! many looks there were and how many visits they saved. A state that is found at a depth saves its visits if nothing is looked for
 //! below it; so the trial ends with the depth up to which the looks saved most, less what they cost. Behind it nothing is looked for
 //! until the next trial, which comes after twice as many visits each time.
+//!
+//! Before the first trial looks, some visits are made: a search that ends within them has no use for a table.
 
 ghost use Rattle.std.specs.Prelude.{◌<◌};
 
@@ -12,6 +14,9 @@ use std::alloc::{AllocError, Global};
 
 /// How many looks a trial has.
 const TRIAL: u64 = 768;
+// (a hard sudoku takes some dozens, by links, where a look takes as many instructions as five visits: each item's bit is asked for)
+/// How many visits there are at first in which nothing is looked for or kept.
+const EARLY: u64 = 128;
 /// What a look costs, in visits.
 const COST: u64 = 3;
 /// Looks that cost so small a part of all visits are made in any case.
@@ -74,6 +79,19 @@ impl Trials {
     #[inline(always)]
     pub(crate) fn is_beyond(&self, depth: usize) -> bool {
         depth > self.deepest
+    }
+
+    /// Whether the search has made too few visits yet to look for anything, or to keep it.
+    #[inline(always)]
+    pub(crate) fn is_early(&self) -> bool {
+        // (only the first trial has no pause before it)
+        self.pause == 0 && self.made < EARLY
+    }
+
+    /// Lets the search look from now on.
+    #[inline(always)]
+    pub(crate) fn begin_looks(&mut self) {
+        self.made = self.made.max(EARLY);
     }
 
     /// How many visits may be made until the next trial.

@@ -46,7 +46,7 @@ pub fn visit_below<B: Branching, W: Watch>(
 }
 
 /// Visits the prefix that is chosen, and what is below it. The chosen options come back, or are the first cover. It also stops where no
-/// more than `pause` is left: then another visit may go on at what is chosen.
+/// more than `pause` is left: then another visit may go on at what is chosen. However it ends, the watch hears then how many visits it made.
 pub(crate) fn visit_prefix<B: Branching, W: Watch>(
     state: &mut B,
     fuel: u64,
@@ -69,16 +69,20 @@ pub(crate) fn visit_prefix<B: Branching, W: Watch>(
     while left > pause {
         // (by what is left, which needs no counter; of a power of two the remainder is a mask)
         if left % EVERY == 0 && watch.look(state.chosen(), left) {
+            watch.made(fuel.saturating_sub(left), left);
             return Visit::Stopped(left);
         }
         let Some(item) = state.branch_item() else {
+            watch.made(fuel.saturating_sub(left), left);
             return Visit::Found;
         };
         left -= 1;
         if state.choose_first(item).is_none() && !choose_onward(state, base) {
+            watch.made(fuel.saturating_sub(left), left);
             return Visit::Barren(left);
         }
     }
+    watch.made(fuel.saturating_sub(left), left);
     if left > 0 {
         Visit::Stopped(left)
     } else {

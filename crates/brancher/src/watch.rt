@@ -19,8 +19,8 @@ pub trait Watch {
         u64::MAX
     }
 
-    /// Hears that a search that keeps states has made so many visits more, and how many are left. Where it went past a state that was
-    /// kept, only one of its visits is made, but all of them are gone.
+    /// Hears that the search has made so many visits more, and how many are left: of each where it looks for states, else at the end of a
+    /// stretch. Where it went past a state that was kept, only one of its visits is made, but all of them are gone.
     #[inline(always)]
     fn made(&mut self, _visits: u64, _left: u64) {}
 }

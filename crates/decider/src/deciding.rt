@@ -54,7 +54,8 @@ pub fn decide<B: Branching, W: Watch, T: Trace>(
         next = state.choose_next();
     }
     // (as asked before the children, also if a trial began or ended below)
-    if looks {
+    let is_kept = looks && !kept.is_early();
+    if is_kept {
         // (in the table a number stands in place of the visits: it is in no clause either)
         kept.keep(state, trace.keeps(state.chosen().len(), visits));
     }

@@ -2,11 +2,11 @@
 use Rattle.std.specs.Prelude.{MatchOption, Result, Ok, Err}
 use Rattle.std.specs.Option.{ok_or}
 use Rattle.std.specs.Result.{result_ok}
-use Rattle.std.proofs.Common.{◌≡◌, ◌⊎◌, ℕ, List, [], Option, Some, None, Bool, true, false, refl, sym, ap, subst, ◌∙◌, inl, inr}
+use Rattle.std.proofs.Common.{◌≡◌, ◌==◌, ◌⊎◌, ℕ, cond, nat_lt, List, [], Option, Some, None, Bool, true, false, refl, sym, ap, subst, ◌∙◌, inl, inr}
 use Rattle.std.proofs.lemmas.Bool.{both_ways}
 use Rattle.cover_problem.specs.ExactCover.{in_order}
 use Rattle.cover_problem.specs.Problem.{Problem}
-use Rattle.cover_problem.specs.Search.{Outcome, Covers, Barren, Spent, first, found_outcome, outcome}
+use Rattle.cover_problem.specs.Search.{Outcome, Covers, Barren, Spent, first, found_outcome, outcome, visits}
 use Rattle.cover_problem.specs.declared.answer.Answer.{Answer}
 use Rattle.cover_problem.specs.declared.answer.Answer.TheVariants.{Cover, NoCover}
 use Rattle.search_engines.specs.Alone.{answer_by, answer_from, answer_or, outcome_said, whole_outcome, why_spent, IsAnswerWithin, IsGivenIf, IsLimited, LimitedSays}
@@ -41,6 +41,25 @@ first_answers problem (Some chosen) = refl
 pub given_first : (stops : Type 0) (problem : Problem) (given : Option Answer) → MatchOption given stops (λ answer. answer ≡ answer_by problem (first problem [])) → IsGivenIf stops problem None (ok_or given whys.Time)
 given_first stops problem None stopped = inr (refl, stopped)
 given_first stops problem (Some answer) is = first_answers problem (first problem []) ∙ ap Some (sym is)
+
+-- the answer that an outcome gives, if it is one, is that of the first cover
+first_of_outcome : (problem : Problem) (spent : Bool) (found : Option (List ℕ)) (answer : Answer) → answer_from problem (cond spent Spent (found_outcome found)) ≡ Some answer → answer ≡ answer_by problem found
+first_of_outcome problem true found answer is = absurd (cc)
+first_of_outcome problem false found answer is = let same : Some (answer_by problem found) ≡ Some answer = sym (first_answers problem found) ∙ is in cc
+
+-- so with a limit of visits, too, it is that of the first cover
+pub given_is_first : (stops : Type 0) (problem : Problem) (fuel : ℕ) (answer : Answer) → IsGivenIf stops problem (Some fuel) (Ok answer) → answer ≡ answer_by problem (first problem [])
+given_is_first stops problem fuel answer is = first_of_outcome problem (nat_lt fuel (visits problem [])) (first problem []) answer is
+
+-- the fuel is no time
+fuel_is_no_time : (greatest : Bool) → whys.Time ≡ cond greatest whys.GreatestFuel whys.Fuel → ⊥
+fuel_is_no_time true e = absurd (cc)
+fuel_is_no_time false e = absurd (cc)
+
+-- where the time is over, something stops it
+pub time_stops : (stops : Type 0) (problem : Problem) (fuel : ℕ) → IsGivenIf stops problem (Some fuel) (Err whys.Time) → stops
+time_stops stops problem fuel (inl both) = absurd (fuel_is_no_time (fuel == 18446744073709551615) both.1)
+time_stops stops problem fuel (inr both) = both.1
 
 -- what may stop it less often gives what is given more often
 given_more : (stops others : Type 0) (problem : Problem) (fuel : Option ℕ) (given : Result Answer Unanswered) → (stops → others) → IsGivenIf stops problem fuel given → IsGivenIf others problem fuel given

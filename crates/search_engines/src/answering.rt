@@ -1,17 +1,19 @@
 //! The answer to a problem within limits of visits and of time.
 
-ghost use Rattle.std.specs.Prelude.{◌≡◌, ◌≤◌, Some, true, false, IfOk};
+ghost use Rattle.std.specs.Prelude.{◌≡◌, ◌≤◌, [], Some, true, false, IfOk, IfSome, MatchOption};
 ghost use Rattle.std.specs.Option.{ForSome};
+ghost use Rattle.cover_problem.specs.Search.{first};
 ghost use Rattle.dlx_reader.specs.Writing.{IsWritable};
-ghost use Rattle.search_engines.specs.Alone.{IsAnswerWithin, IsGivenIf, answer_or, why_spent};
+ghost use Rattle.search_engines.specs.Alone.{IsAnswerWithin, IsGivenIf, answer_by, answer_or, why_spent};
 
-use crate::deciding::answer_until;
+use crate::deciding::{answer_until, searched};
 use crate::progress_watch::EndWatch;
 use crate::search_limits::SearchLimits;
 use crate::timed_watch::TimedWatch;
 use crate::unanswered::Unanswered;
 use brancher::{Finding, Outcome, ROOM, Searcher, Tables, Watch};
 use cover_problem::{Answer, Problem, in_order};
+use decider::Untraced;
 use std::alloc::{AllocError, Global};
 use std::time::Clock;
 
@@ -54,6 +56,28 @@ pub(crate) fn fueled_answer<V: Watch>(
         Ok(None) => Ok(Err(Unanswered::Time)),
         // (the prefix comes back for a caller that tries again; here the search ends)
         Err(_prefix) => Err(AllocError),
+    }
+}
+
+/// Returns the answer of a problem by a search alone: its first cover, with its options in the order of the file, or that there is none; no
+/// answer where the watch stopped it. It searches as `alone` does, and once more without counting where the visits are more than can be
+/// counted. The only error is out of memory.
+#[tactic(auto, using(crate::proofs::Outcomes::given_is_first, crate::proofs::Outcomes::time_stops))]
+pub fn search_until<V: Watch>(
+    alloc: Global,
+    problem: &Problem,
+    watch: &mut V,
+) -> Result<Option<Answer>, AllocError>
+    ensures answer { IfOk result (λ found. MatchOption found (V.may_stop ≡ true)
+        (λ answer. answer ≡ answer_by problem.now (first problem.now []))) }
+    ensures order { IfOk result (λ found. IfSome found (IsWritable problem.now)) }
+{
+    // (the loop that counts visits takes up to a twentieth fewer instructions than the recursion that doesn't; where they are more than can be
+    // counted, states that are kept let it see that soon)
+    match fueled_answer(alloc, problem, u64::MAX, watch)? {
+        Ok(answer) => Ok(Some(answer)),
+        Err(Unanswered::Time) => Ok(None),
+        Err(_) => searched(alloc, &Tables::build(alloc, problem)?, watch, &mut Untraced),
     }
 }
 

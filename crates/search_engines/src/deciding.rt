@@ -102,20 +102,6 @@ fn is_excluded_by_use<W: ReasonWatch>(alloc: Global, problem: &Problem, watch: &
     }
 }
 
-/// Returns the answer of a problem by a search alone: its first cover, with its options in the order of the file, or that there is none; no
-/// answer where the watch stopped it. The only error is out of memory.
-pub fn search_until<V: Watch>(
-    alloc: Global,
-    problem: &Problem,
-    watch: &mut V,
-) -> Result<Option<Answer>, AllocError>
-    ensures answer { IfOk result (λ found. MatchOption found (V.may_stop ≡ true)
-        (λ answer. answer ≡ answer_by problem.now (first problem.now []))) }
-    ensures order { IfOk result (λ found. IfSome found (IsWritable problem.now)) }
-{
-    searched(alloc, &Tables::build(alloc, problem)?, watch, &mut Untraced)
-}
-
 /// Searches the problem for `SHORT` at most, and looks for a reason meanwhile. Returns the answer, or none where neither came to an end. The only
 /// error is out of memory.
 fn searched_shortly<C: Clock>(

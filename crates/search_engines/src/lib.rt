@@ -28,12 +28,12 @@ mod unanswered;
 mod walk_watch;
 
 pub use alone::{AloneEnd, alone_engine, alone_within};
-pub use answering::answer_within;
+pub use answering::{answer_within, search_until};
 pub use certifying::{
     ReasonListener, Unheard, certified_until, write_certified, write_certified_within,
 };
 pub use check::{CheckEnd, check_engine, check_within};
-pub use deciding::{answer_until, is_excluded, search_until};
+pub use deciding::{answer_until, is_excluded};
 pub use engine::{EngineEnd, Written, ended_with};
 pub use failure::{Failure, Unread};
 pub use fault::EngineFault;

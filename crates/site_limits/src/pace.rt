@@ -83,7 +83,7 @@ impl Pace {
         if self.alone {
             return u64::MAX;
         }
-        if hunger.is_felt() || self.is_too_long(length) || self.is_wary {
+        if hunger.is_felt() || self.deem_too_long(length) || self.is_wary {
             return self.small();
         }
         // (searches of one length differ, and one that is spent is lost: so it gets far more than it is thought to take)
@@ -148,7 +148,7 @@ impl Pace {
 
     /// Whether a search of a prefix of this length is thought to take more than a job in plenty does; where searches of this length
     /// have told so, it is thought to take a tenth less the next time.
-    fn is_too_long(&mut self, length: usize) -> bool {
+    fn deem_too_long(&mut self, length: usize) -> bool {
         let plenty = self.plenty();
         let next = self
             .expected

@@ -22,7 +22,7 @@ pub struct SearchWatch<'a, F: Follower> {
     quota: Quota,
     /// At its limit it goes on if so many times as many visits are gone as it has made.
     many: u64,
-    /// How many visits it has made if it keeps states.
+    /// How many visits it said that it has made.
     made: u64,
     /// How much fuel was left then.
     left: u64,
@@ -52,12 +52,12 @@ impl<'a, F: Follower> SearchWatch<'a, F> {
         }
     }
 
-    /// How many visits a search that keeps states has made.
+    /// How many visits the search said that it has made: once it has ended, all.
     pub fn made_visits(&self) -> u64 {
         self.made
     }
 
-    /// How many visits are gone by what a search that keeps states has made.
+    /// How many visits are gone by those.
     pub fn gone(&self) -> u64 {
         self.fuel.saturating_sub(self.left)
     }
@@ -92,7 +92,7 @@ impl<'a, F: Follower> Watch for SearchWatch<'a, F> {
         if self.grow_or_stop(left) {
             return true;
         }
-        // (a search that keeps no states never calls made: all its visits are in the fuel that is gone)
+        // (what went past a kept state is gone, but wasn't made; what is gone since the search last said so was made)
         let made = self.made.saturating_add(self.left.saturating_sub(left));
         self.follower.seen(self.length, chosen, made);
         // (nothing else is read by this flag, and one look more does no harm, so it needs no order)

@@ -103,7 +103,7 @@ impl<L: Link> Receiver<L> {
     /// What a turn came to; the thread ends where the site is to end by this cause, or nothing shows the run going on for long.
     fn unless_it_ends(&mut self, turn: Turn, ending: Option<EndCause>, is_empty: bool) -> Turn {
         match ending {
-            Some(cause) if self.schedule.ends(self.now, is_empty) => self.ended_by(cause),
+            Some(cause) if self.schedule.end_if_quiet(self.now, is_empty) => self.ended_by(cause),
             _ if self.schedule.is_silent(self.now) => self.ended_by(EndCause::Silence),
             _ => turn,
         }
@@ -195,7 +195,7 @@ impl<
     /// and nodes give up.
     fn greet(&mut self) -> Turn {
         let (node, now) = (self.actor.shared.cell.site().node, self.receiver.now);
-        if node == 0 || !self.receiver.schedule.greets(now) {
+        if node == 0 || !self.receiver.schedule.greet_if_due(now) {
             return Turn::Used;
         }
         after(self.actor.act(self.rt, Event::Greet))
@@ -271,7 +271,7 @@ impl<
     /// Says again what may be lost, if it is time to, after a turn that came to this.
     fn say_again(&mut self, turn: Turn) -> Turn {
         let (said, now) = (self.actor.shared.signals.said(), self.receiver.now);
-        if !self.receiver.schedule.repeats(now, said) {
+        if !self.receiver.schedule.repeat_if_due(now, said) {
             return turn;
         }
         match after(self.actor.act(self.rt, Event::Again)) {

@@ -71,8 +71,8 @@ impl Schedule {
         now >= self.lasts
     }
 
-    /// Whether the registry is to be greeted. It counts as greeted then.
-    pub fn greets(&mut self, now: u64) -> bool {
+    /// Answers whether the registry is to be greeted now. It counts as greeted then.
+    pub fn greet_if_due(&mut self, now: u64) -> bool {
         if now < self.greeting {
             return false;
         }
@@ -90,11 +90,11 @@ impl Schedule {
         now.saturating_sub(self.heard) >= self.timing.silence.saturating_mul(MILLI)
     }
 
-    /// Whether what may be lost is to be said again, where so much was said in all. It counts as said again then.
+    /// Answers whether what may be lost is to be said again now, where so much was said in all. It counts as said again then.
     ///
     /// After something new was said it is said again soon, and then each time after twice as long, since what was not lost
     /// needs it no more. Once the search is over it is the end that is announced.
-    pub fn repeats(&mut self, now: u64, said: u64) -> bool {
+    pub fn repeat_if_due(&mut self, now: u64, said: u64) -> bool {
         if said != self.said {
             self.said = said;
             self.pause = self.timing.again.saturating_mul(MILLI);
@@ -134,8 +134,8 @@ impl Schedule {
         self.announcements == Some(0)
     }
 
-    /// Whether a site that is to end ends now: where its receive was empty, or packets came for long since that was seen first.
-    pub fn ends(&mut self, now: u64, is_empty: bool) -> bool {
+    /// Answers whether a site that is to end ends now: where its receive was empty, or packets came for long since it was first asked.
+    pub fn end_if_quiet(&mut self, now: u64, is_empty: bool) -> bool {
         let seen = *self.ending.get_or_insert(now);
         is_empty || now.saturating_sub(seen) >= GRACE
     }

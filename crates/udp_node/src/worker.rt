@@ -211,7 +211,7 @@ impl<'r, 't, 's, J: Run, C: Core + Drop, N: CellName, H: Gate + Follower, R: Wai
             .find_so_far(prefix.into_vec(), most, &mut watch)
         {
             Ok(Some((finding, count))) if !watch.is_called_off() => {
-                let made = if keeps { watch.made_visits() } else { count };
+                let made = watch.made_visits();
                 hooks.searched(&finding, made);
                 if keeps {
                     self.share(&watch);

@@ -100,11 +100,11 @@ fn micros(millis: u64) -> u64 {
 /// Whether the schedule answers so.
 fn is_answered(schedule: &mut Schedule, step: Step) -> bool {
     match step {
-        Greets(now, answer) => schedule.greets(micros(now)) == answer,
+        Greets(now, answer) => schedule.greet_if_due(micros(now)) == answer,
         IsSilent(now, answer) => schedule.is_silent(micros(now)) == answer,
-        Repeats(now, said, answer) => schedule.repeats(micros(now), said) == answer,
+        Repeats(now, said, answer) => schedule.repeat_if_due(micros(now), said) == answer,
         Announces(answer) => schedule.has_announced() == answer,
-        Ends(now, is_empty, answer) => schedule.ends(micros(now), is_empty) == answer,
+        Ends(now, is_empty, answer) => schedule.end_if_quiet(micros(now), is_empty) == answer,
         IsSpent(now, answer) => schedule.is_spent(micros(now)) == answer,
         Hears(now) => {
             schedule.hear(micros(now));
@@ -130,7 +130,7 @@ fn announcements() -> Option<u32> {
         if schedule.has_announced() {
             return Some(count);
         }
-        if schedule.repeats(10 * look, 9) {
+        if schedule.repeat_if_due(10 * look, 9) {
             count = count.saturating_add(1);
         }
     }

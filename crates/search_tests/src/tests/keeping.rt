@@ -2,9 +2,9 @@
 //!
 //! Of the bugs of `brancher` that are kept outside the gate, `a_board_of_twelve_by_twelve_is_searched_whole` finds
 //! `nothing_kept_is_found`, and `a_stopped_search_tells_what_it_came_to` finds `visits_are_not_told_of` and `a_watch_waits_for_1024_visits`,
-//! and `what_is_shared_is_not_visited` finds `what_is_shared_is_lost` and `nothing_is_seen_to_be_barren`. Of the bugs of `barren_states` that are
-//! kept outside the gate, `a_board_of_twelve_by_twelve_is_searched_whole` finds `table_never_grows`, and `what_took_many_visits_is_kept` finds
-//! `small_states_stay_longer`.
+//! and `what_is_shared_is_not_visited` finds `what_is_shared_is_lost`, `what_is_shared_begins_no_looks` and `nothing_is_seen_to_be_barren`. Of the
+//! bugs of `barren_states` that are kept outside the gate, `a_board_of_twelve_by_twelve_is_searched_whole` finds `table_never_grows`, and
+//! `what_took_many_visits_is_kept` finds `small_states_stay_longer`.
 
 ghost use Rattle.std.specs.Prelude.{◌≤◌, true};
 
@@ -206,6 +206,40 @@ fn a_stopped_search_tells_what_it_came_to(rt: HostRuntime) {
         let tables = Tables::of_sets(rt.alloc(), &problem).expect(&rt, "memory");
         let told = came_to(rt.alloc(), &tables, *room, *visits).expect(&rt, "memory");
         assert_eq!(rt; told, *came, "search {number}");
+    }
+}
+
+/// Problems, what a search that keeps nothing has as fuel, what it came to, and how many visits it said by then that it had made.
+static PLAIN: [(&str, u64, Outcome, u64); 4] = [
+    (LETTERS, u64::MAX, Outcome::Cover, 5),
+    (BOARD_OF_6, 944, Outcome::Spent, 944),
+    (BOARD_OF_6, 945, Outcome::Barren, 945),
+    (TORUS_QUEENS, u64::MAX, Outcome::Barren, 21_798),
+];
+
+/// What a search of the empty prefix came to that keeps nothing, and how many visits its watch heard of; none where memory ran out.
+fn plainly(alloc: Global, tables: &Tables<'_>, fuel: u64) -> Option<(Outcome, u64)>
+    requires { 1 ≤ fuel }
+{
+    let mut searcher = Searcher::of_tables(alloc, tables).ok()?;
+    // (it stops nothing)
+    let mut watch = Stopping {
+        visits: u64::MAX,
+        made: 0,
+    };
+    let found = searcher
+        .find_so_far(Vec::new(alloc), fuel, &mut watch)
+        .ok()??;
+    Some((found.0.outcome(), watch.made))
+}
+
+#[test]
+fn a_plain_search_tells_what_it_made(rt: HostRuntime) {
+    for (text, fuel, outcome, made) in &PLAIN {
+        let problem = problem_of(&rt, rt.alloc(), text);
+        let sets = Tables::of_sets(rt.alloc(), &problem).expect(&rt, "memory");
+        let told = plainly(rt.alloc(), &sets, (*fuel).max(1));
+        assert_eq!(rt; told, Some((*outcome, *made)), "{fuel} visits");
     }
 }
 

@@ -39,13 +39,15 @@ returns-in-Stopped-clause-step g c = λ root fuel same are reached.
 pub returns-in-Stopped-2-clause-step : goal.returns-in-Stopped-2-clause-step
 returns-in-Stopped-2-clause-step g c = λ root fuel same are reached.
     let now = g.B.Branching.choices c.args.state.now in
+    let R : Keeping → Type 0 = λ k. IsEntered root fuel k.entered (g.B.Branching.choices c.args.state.now) c.args.left in
+    let A : Keeping → Type 0 = λ k. AreBarren root.problem k.states in
     let may : g.W.Watch.may_stop ≡ true = elim (c.visit_prefix.ensures.stopped c.in-Stopped.rest c.in-Stopped.is) [
       | inl may ↦ may
       | inr none ↦ absurd (omega (arith, none, c.if-rest-pause.false))
     ] in (
-      are,
-      ended_here g.W.Watch.may_stop root fuel c.args.kept.now.entered now (g.B.Branching.choices c.visit_prefix.new.state) c.args.left (Stopped c.in-Stopped.rest) (λ rest is. absurd (cc)) (λ rest is. may)
-          c.visit_prefix.ensures.problem c.in-Stopped.ensures.visit reached,
+      subst A (sym c.made-in-Stopped-2.ensures) are,
+      ended_here g.W.Watch.may_stop root fuel c.made-in-Stopped-2.new.self.entered now (g.B.Branching.choices c.visit_prefix.new.state) c.args.left (Stopped c.in-Stopped.rest) (λ rest is. absurd (cc)) (λ rest is. may)
+          c.visit_prefix.ensures.problem c.in-Stopped.ensures.visit (subst R (sym c.made-in-Stopped-2.ensures) reached),
     )
 
 pub returns-in-Found-clause-step : goal.returns-in-Found-clause-step
@@ -58,8 +60,10 @@ returns-in-Found-clause-step g c = λ root fuel same are reached.
 
 pub returns-in-Spent-clause-step : goal.returns-in-Spent-clause-step
 returns-in-Spent-clause-step g c = λ root fuel same are reached.
-    let now = g.B.Branching.choices c.args.state.now in (
-      are,
-      ended_here g.W.Watch.may_stop root fuel c.args.kept.now.entered now (g.B.Branching.choices c.visit_prefix.new.state) c.args.left Spent (λ rest is. absurd (cc)) (λ rest is. absurd (cc))
-          c.visit_prefix.ensures.problem c.in-Spent.ensures.visit reached,
+    let now = g.B.Branching.choices c.args.state.now in
+    let R : Keeping → Type 0 = λ k. IsEntered root fuel k.entered (g.B.Branching.choices c.args.state.now) c.args.left in
+    let A : Keeping → Type 0 = λ k. AreBarren root.problem k.states in (
+      subst A (sym c.made-in-Spent.ensures) are,
+      ended_here g.W.Watch.may_stop root fuel c.made-in-Spent.new.self.entered now (g.B.Branching.choices c.visit_prefix.new.state) c.args.left Spent (λ rest is. absurd (cc)) (λ rest is. absurd (cc))
+          c.visit_prefix.ensures.problem c.in-Spent.ensures.visit (subst R (sym c.made-in-Spent.ensures) reached),
     )

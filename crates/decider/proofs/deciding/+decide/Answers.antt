@@ -89,8 +89,8 @@ loop-state-preserved g t c =
       short = c.loop-state.invariant.short;
     }
 
-pub returns-then-looks-clause-kept : goal.returns-then-looks-clause-kept
-returns-then-looks-clause-kept g t c =
+pub returns-then-is_kept-clause-kept : goal.returns-then-is_kept-clause-kept
+returns-then-is_kept-clause-kept g t c =
     let before = g.B.Branching.choices c.args.state.now in
     let now = g.B.Branching.choices c.loop-state.state in
     let all = tried_all before now c.in-Some.item c.loop-state.next (sym c.is_some.ensures ∙ c.loop-state-test.false) c.loop-state.invariant.trying in
