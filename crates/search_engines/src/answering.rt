@@ -73,7 +73,7 @@ pub fn search_until<V: Watch>(
     ensures order { IfOk result (λ found. IfSome found (IsWritable problem.now)) }
 {
     // (the loop that counts visits takes up to a twentieth fewer instructions than the recursion that doesn't; where they are more than can be
-    // counted, states that are kept let it see that soon)
+    // counted, what the loop did until it saw that is lost, which doubles the time at most where the recursion takes as long or longer)
     match fueled_answer(alloc, problem, u64::MAX, watch)? {
         Ok(answer) => Ok(Some(answer)),
         Err(Unanswered::Time) => Ok(None),

@@ -52,7 +52,7 @@ impl<'a, F: Follower> SearchWatch<'a, F> {
         }
     }
 
-    /// How many visits the search said that it has made: once it has ended, all.
+    /// How many visits the search said that it has made: once it has ended, all but one at which a kept state may have spent its fuel.
     pub fn made_visits(&self) -> u64 {
         self.made
     }
