@@ -42,9 +42,9 @@ def answer_text(text: str, first: Optional[list[int]]) -> str:
     return "".join(line + "\n" for line in [f"cover {len(first)}", *(options[o] for o in sorted(first))])
 
 
-def told(path: str, fuel: Optional[int] = None) -> str:
+def answer_of(path: str, fuel: Optional[int] = None) -> str:
     words = [SOLVE_CLI, "alone", path, *(["--fuel", str(fuel)] if fuel else [])]
-    return subprocess.run(words, stdout=subprocess.PIPE, text=True).stdout
+    return subprocess.run(words, capture_output=True, text=True).stdout
 
 
 def agrees(path: str, text: str) -> tuple[bool, bool]:
@@ -54,8 +54,8 @@ def agrees(path: str, text: str) -> tuple[bool, bool]:
     _, primary, options, _ = read(text.encode())
     first, visits = search(primary, options, [])
     wanted = answer_text(text, first)
-    less = told(path, visits - 1) == "no answer\n" if visits > 1 else True
-    return told(path) == wanted and told(path, visits) == wanted and less, first is not None
+    less = answer_of(path, visits - 1) == "no answer\n" if visits > 1 else True
+    return answer_of(path) == wanted and answer_of(path, visits) == wanted and less, first is not None
 
 
 def main() -> int:
