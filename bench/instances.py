@@ -17,9 +17,13 @@ HERE = os.path.dirname(os.path.abspath(__file__))
 sys.path.insert(0, os.path.join(HERE, "..", "trials"))
 from built import parser_of, stop  # noqa: E402
 from problems import put  # noqa: E402
-from zarfepoch import generate  # noqa: E402
-from zarfepoch.generate import PENTOMINOES, orientations, rectangle, shape  # noqa: E402
+from zarfepoch.cells import rectangle  # noqa: E402
+from zarfepoch.coloured_sides import squares  # noqa: E402
 from zarfepoch.puzzle_texts import Puzzle  # noqa: E402
+from zarfepoch.puzzles import langford_pairs  # noqa: E402
+from zarfepoch.sudokus import sudoku_of  # noqa: E402
+from zarfepoch.tilings import PENTOMINOES, dominoes, orientations, shape  # noqa: E402
+from zarfepoch.word_puzzles import word_squares  # noqa: E402
 
 # what the first comment of most instances says
 NOTE = "an instance of the benchmark"
@@ -101,11 +105,11 @@ def three_coloured() -> dict[str, list[str]]:
 
 def instances() -> Iterator[tuple[str, str, Puzzle]]:
     """Each instance: its name, what its first comment says, and the problem."""
-    yield "langford-13", "no pairing", generate.langford(13)
+    yield "langford-13", "no pairing", langford_pairs(13)
     yield "pentominoes-6x10", NOTE, shuffled(rectangle(6, 10), 7)
     yield "pentominoes-3x20", NOTE, shuffled(rectangle(3, 20), 3)
     yield "diamond", NOTE, shuffled(diamond(), 2)
-    yield "mutilated-chessboard", "none", generate.dominoes(rectangle(8, 8) - {(0, 0), (7, 7)})
+    yield "mutilated-chessboard", "none", dominoes(rectangle(8, 8) - {(0, 0), (7, 7)})
     yield "crowd", NOTE, crowd(6)
     yield "scattered-19", NOTE, scattered(95, 19, 4000, 1)
     # (three divides neither number, so there is no cover)
@@ -114,9 +118,9 @@ def instances() -> Iterator[tuple[str, str, Puzzle]]:
     for n in (14, 15, 16):
         yield f"torus-queens-{n}", NOTE, torus_queens(n)
         yield f"torus-queens-{n}-all", NOTE, torus_queens(n, 4)
-    yield "macmahon-4x6", "MacMahon's squares, one colour all round", generate.squares(rectangle(4, 6), three_coloured(), "a")
-    yield "word-squares-4", "two squares of sixteen different words", generate.word_squares(WORDS.split(), ("a", "b"))
-    yield "sudoku-hard", "few givens, many visits", generate.sudoku([
+    yield "macmahon-4x6", "MacMahon's squares, one colour all round", squares(rectangle(4, 6), three_coloured(), "a")
+    yield "word-squares-4", "two squares of sixteen different words", word_squares(WORDS.split(), ("a", "b"))
+    yield "sudoku-hard", "few givens, many visits", sudoku_of([
         "..............3.85..1.2.......5.7.....4...1...9.......5......73..2.1........4...9"[k:k + 9] for k in range(0, 81, 9)])
 
 

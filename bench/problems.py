@@ -9,14 +9,15 @@ from typing import Optional
 sys.path.insert(0, os.path.join(os.path.dirname(os.path.abspath(__file__)), "..", "trials"))
 import built  # noqa: E402, F401 (which finds the package)
 from zarfepoch import generate  # noqa: E402
-from zarfepoch.generate import Cell, names_of  # noqa: E402
+from zarfepoch.cells import Cell, names_of  # noqa: E402
+from zarfepoch.limits import check_range  # noqa: E402
 from zarfepoch.puzzle_texts import Puzzle  # noqa: E402
 
 
 def put(folder: str, name: str, note: str, puzzle: Puzzle) -> None:
     """Writes a problem that the program reads into a folder, with this as its first comment."""
-    generate.check_range(puzzle)
-    generate.write(generate.told(note, puzzle), os.path.join(folder, f"{name}.dlx"))
+    check_range(puzzle)
+    generate.write(puzzle.told(note), os.path.join(folder, f"{name}.dlx"))
 
 
 def write(path: str, primary: Sequence[str], options: list[list[str]], secondary: Optional[Sequence[str]] = None) -> None:

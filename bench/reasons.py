@@ -26,8 +26,10 @@ sys.path.insert(0, os.path.join(HERE, "..", "trials"))
 from built import SOLVE_CLI, TOP, number_from_one, parser_of, stop, want_program  # noqa: E402
 import measured  # noqa: E402
 from problems import put, straight  # noqa: E402
-from zarfepoch import generate  # noqa: E402
+from zarfepoch.cells import names_of, rectangle  # noqa: E402
 from zarfepoch.puzzle_texts import Puzzle  # noqa: E402
+from zarfepoch.puzzles import langford_pairs, triples  # noqa: E402
+from zarfepoch.tilings import TETROMINOES, dominoes, placements  # noqa: E402
 
 ZARFEPOCH = [sys.executable, os.path.join(TOP, "scripts", "zarfepoch")]
 EXAMPLES = ("langford-5", "mutilated-chessboard", "tetrominoes-4x5")
@@ -45,9 +47,9 @@ FAMILIES = ("dominoes-20x20", "dominoes-30x30", "langford-13", "langford-14", "l
 
 def tetrominoes(side: int) -> Puzzle:
     """Tetrominoes like a T on a square board."""
-    cells = generate.rectangle(side, side)
-    options = [option[1:] for option in generate.placements({"T": generate.TETROMINOES["T"]}, cells)]
-    return Puzzle(list(generate.names_of(cells).values()), [], options)
+    cells = rectangle(side, side)
+    options = [option[1:] for option in placements({"T": TETROMINOES["T"]}, cells)]
+    return Puzzle(list(names_of(cells).values()), [], options)
 
 
 def lessons(hours: list[list[int]], periods: int) -> Puzzle:
@@ -65,7 +67,7 @@ def quasigroup(order: int, filled: int, seed: int) -> Puzzle:
     draw = random.Random(seed)
     free = {f"{kind}{a}-{b}" for kind in "xrc" for a in range(order) for b in range(order)}
     parts = {(r, c, v): (f"x{r}-{c}", f"r{r}-{v}", f"c{c}-{v}") for r in range(order) for c in range(order) for v in range(order)}
-    cells = draw.sample(sorted(generate.rectangle(order, order)), filled)
+    cells = draw.sample(sorted(rectangle(order, order)), filled)
     for r, c in cells:
         open_values = [v for v in range(order) if free.issuperset(parts[r, c, v])]
         if open_values:
@@ -89,15 +91,15 @@ def write_instances(folder: str) -> None:
     """All instances."""
     subprocess.run([sys.executable, os.path.join(HERE, "instances.py"), folder], check=True)
     for side in (20, 30):
-        cells = generate.rectangle(side, side) - {(0, 0), (side - 1, side - 1)}
-        put(folder, f"dominoes-{side}x{side}", "without two opposite corners", generate.dominoes(cells))
+        cells = rectangle(side, side) - {(0, 0), (side - 1, side - 1)}
+        put(folder, f"dominoes-{side}x{side}", "without two opposite corners", dominoes(cells))
     for count in (13, 14, 16, 17, 18, 22):
-        put(folder, f"langford-{count}", "pairs", generate.langford(count))
+        put(folder, f"langford-{count}", "pairs", langford_pairs(count))
     put(folder, "t-tetrominoes-22x22", "none", tetrominoes(22))
-    items, pieces = straight(generate.rectangle(14, 14) - {(0, 0)}, 3)
+    items, pieces = straight(rectangle(14, 14) - {(0, 0)}, 3)
     put(folder, "straight-trominoes-14x14", "none", Puzzle(items, [], pieces))
     for points in (10, 11):
-        put(folder, f"steiner-{points}", "triples", generate.triples(points))
+        put(folder, f"steiner-{points}", "triples", triples(points))
     put(folder, "class-25-in-24", "none", lessons([[25]], 24))
     # (the first teacher has 26 hours)
     put(folder, "school-of-8", "none", lessons([[5, 2, 2, 3, 3, 3, 3, 3], *[[3] * 8] * 7], 25))

@@ -28,8 +28,9 @@ sys.path.insert(0, os.path.join(HERE, "..", "trials"))
 from built import WORKBENCH, number_from_one, parser_of, stop, want_program  # noqa: E402
 from measured import run  # noqa: E402
 from problems import put  # noqa: E402
-from zarfepoch import generate  # noqa: E402
+from zarfepoch.cells import rectangle  # noqa: E402
 from zarfepoch.puzzle_texts import Puzzle  # noqa: E402
+from zarfepoch.tilings import dominoes  # noqa: E402
 
 KINDS = ["links", "sets"]
 
@@ -44,8 +45,8 @@ def near(draw: random.Random, places: int) -> list[int]:
 def sparse_instances(folder: str) -> None:
     """Hundreds of items, and options that bar few others."""
     for rows, columns in ((12, 10), (20, 20)):
-        cells = generate.rectangle(rows, columns) - {(0, 0), (rows - 1, columns - 1)}
-        put(folder, f"dominoes-{rows}x{columns}", "without two corners of one colour", generate.dominoes(cells))
+        cells = rectangle(rows, columns) - {(0, 0), (rows - 1, columns - 1)}
+        put(folder, f"dominoes-{rows}x{columns}", "without two corners of one colour", dominoes(cells))
     draw, names = random.Random(5), [f"i{k}" for k in range(1000)]
     local = [[names[k] for k in near(draw, 1000)] for _ in range(20000)]
     put(folder, "local-1000", "options of items next to one another", Puzzle(names, [], local))

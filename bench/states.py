@@ -34,8 +34,9 @@ from built import SOLVE_CLI, WORKBENCH, number_from_one, parser_of, stop, want_p
 from encodings_of_peers import formula_of, program_of  # noqa: E402
 from measured import ended, processor_seconds  # noqa: E402
 from problems import put, straight  # noqa: E402
-from zarfepoch import generate  # noqa: E402
+from zarfepoch.cells import rectangle  # noqa: E402
 from zarfepoch.puzzle_texts import Puzzle  # noqa: E402
+from zarfepoch.tilings import dominoes  # noqa: E402
 
 GREATEST = str(2 ** 64 - 1)
 BOARDS = (8, 10, 12, 14, 16, 18, 20)
@@ -65,11 +66,11 @@ def write_instances(folder: str) -> None:
     """The benchmark's instances, and families in which states repeat."""
     subprocess.run([sys.executable, os.path.join(HERE, "instances.py"), folder], check=True)
     for side in BOARDS:
-        cells = generate.rectangle(side, side) - {(0, 0), (side - 1, side - 1)}
-        put(folder, f"dominoes-{side}x{side}", "without two opposite corners", generate.dominoes(cells))
-    put(folder, "dominoes-13x13", "an odd number of cells", generate.dominoes(generate.rectangle(13, 13)))
+        cells = rectangle(side, side) - {(0, 0), (side - 1, side - 1)}
+        put(folder, f"dominoes-{side}x{side}", "without two opposite corners", dominoes(cells))
+    put(folder, "dominoes-13x13", "an odd number of cells", dominoes(rectangle(13, 13)))
     put(folder, "pigeons-12", "none", pigeons(12))
-    items, pieces = straight(generate.rectangle(14, 14), 4)
+    items, pieces = straight(rectangle(14, 14), 4)
     put(folder, "straight-14x14", "none", Puzzle(items, [], pieces))
 
 

@@ -23,10 +23,10 @@ from built import SOLVE_CLI, parser_of, stop, want_program  # noqa: E402
 from help_texts import PROGRAM, Help, command_help, longs, program_help  # noqa: E402
 import zarfepoch  # noqa: E402
 from zarfepoch.commands import COMMANDS  # noqa: E402
-from zarfepoch.generate import KINDS  # noqa: E402
+from zarfepoch.kinds import KINDS  # noqa: E402
 
 # the words that may come first behind a command
-KINDS_OF = {"zarfepoch": KINDS, "zarfepoch-generate": KINDS}
+KINDS_OF = {command: [kind.name for kind in KINDS] for command in ("zarfepoch", "zarfepoch-generate")}
 # what the program's help doesn't say of the statuses that all commands have in common, in the order of their numbers
 STATUSES = {
     "0": "a cover, or the answer is right", "1": "there is none, or the answer is wrong", "2": "a mistake on the command line",

@@ -21,7 +21,7 @@ from hypothesis import HealthCheck, given, settings, strategies as some
 import pytest
 
 from built import TOP
-from zarfepoch import generate
+from zarfepoch import examples, generate
 from zarfepoch.cover_files import read_problem
 from zarfepoch.picture_kinds import picture_of
 from zarfepoch.svg_paper import folded, Paper, text_width
@@ -322,11 +322,11 @@ def test_maps(trial: Drawing) -> None:
 
 
 def test_boards_with_colours(trial: Drawing) -> None:
-    nine = trial.path("nine", "\n".join(generate.SQUARES).encode())
+    nine = trial.path("nine", "\n".join(examples.SQUARES).encode())
     assert are_squares(trial.made("squares", "3x3", nine, "--border", "grey"), "g"), "squares"
     assert are_squares(trial.made("squares", "2x2", trial.path("four", FOUR))), "squares without a border"
-    ten = trial.path("ten", generate.WORDS.encode())
-    assert are_words(trial.made("words", ten), generate.WORDS.split()), "words"
+    ten = trial.path("ten", examples.WORDS.encode())
+    assert are_words(trial.made("words", ten), examples.WORDS.split()), "words"
     again = trial.made("word-square", trial.path("again", b"ab ba"), "--repeat")
     assert again == ["a b", "b a"], "words that come again"
     crossword = trial.made("crossword", trial.path("grid", b".a\n#.\n"), trial.path("two", b"ca at\nat\nta"))
@@ -334,13 +334,13 @@ def test_boards_with_colours(trial: Drawing) -> None:
 
 
 def test_puzzles(trial: Drawing) -> None:
-    rows, columns = generate.NONOGRAM
+    rows, columns = examples.NONOGRAM
     text = "\n\n".join("\n".join(" ".join(map(str, line)) for line in lines) for lines in (rows, columns))
     for name, file in (("a nonogram", text), ("a nonogram with Windows line ends", text.replace("\n", "\r\n") + "\r\n \r\n")):
         assert are_blocks(trial.made("nonogram", trial.path("blocks", file.encode())), rows, columns), name
     assert trial.made("nonogram", trial.path("white", b"0\n0\n\n0\n0\n0\n")) == ["...", "..."], "no black cell"
-    cubes = {line.split()[0]: line.split()[1:] for line in generate.CUBES}
-    assert are_turned(trial.made("cubes", trial.path("cubes", "\n".join(generate.CUBES).encode())), cubes), "cubes"
+    cubes = {line.split()[0]: line.split()[1:] for line in examples.CUBES}
+    assert are_turned(trial.made("cubes", trial.path("cubes", "\n".join(examples.CUBES).encode())), cubes), "cubes"
     sheet = trial.drawn(trial.path("sheet.dlx", b"A1 B1 A2 B2\nA1 B1\nA2 B2\n"), trial.path("sheet.svg"))
     assert [line for line in sheet if line.startswith("+")] == ["+---+---+"] * 3, "cells as in a spreadsheet"
     pair = trial.drawn(trial.path("pair.dlx", b"1 s0 s2\n1 s0 s2\n"), trial.path("pair.svg"))

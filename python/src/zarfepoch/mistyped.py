@@ -14,8 +14,9 @@ from .another import free_name, others_of
 from .answers import answered
 from .cover_files import read_audited, read_problem
 from .fault_words import plural
+from .limits import Refused
 from .puzzle_texts import Change, PlainlyNone, Puzzle
-from .puzzles import NoSolution, Refused
+from .word_puzzles import NoSolution
 
 # so many seconds all changes together may take where no time is told, and each question about one, or a tenth of the time if that is more
 SECONDS, QUESTION = 5.0, 1.0

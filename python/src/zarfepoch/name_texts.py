@@ -35,6 +35,11 @@ def words_of(path: str) -> list[tuple[int, list[str]]]:
     return [(number, names) for number, names in ((number, names_in(path, number, line)) for number, line in lines) if names]
 
 
+def some_words(path: str) -> list[tuple[int, list[str]]]:
+    """The same of a file that has to have some."""
+    return words_of(path) or refuse(path, None, "there is no line with words")
+
+
 def as_seen(name: str) -> str:
     """A name without characters that nobody sees, and with usual letters in place of full-width and half-width ones."""
     letters = (letter for letter in name if unicodedata.category(letter) != "Cf")

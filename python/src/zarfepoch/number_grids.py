@@ -9,12 +9,12 @@ from collections import Counter
 from collections.abc import Iterator
 from typing import Optional
 
+from .cells import cell_names
 from .cover_files import MAX_OPTIONS
 from .fault_words import plural, with_article
 from .name_texts import names_in
 from .picture_base import cell_words
 from .puzzle_texts import blocks_of, Change, no_cover, Puzzle, refuse, rows_of
-from .puzzles import cell_names
 from .sudokus import cells_by_letter, EMPTY, letters_of, want_whole
 
 # a cell by row and column; the words of each line with its number

@@ -7,6 +7,7 @@ on the board, which items as `L.1<3` see to.
 from __future__ import annotations
 
 import itertools
+import os
 import re
 from collections.abc import Iterable, Sequence
 
@@ -274,3 +275,10 @@ def filled(cells: set[Cell], pieces: list[Piece], flips: bool = True) -> Puzzle:
         options += [[name] + [names[cell] for cell in some] + copies.order(k, place[some[0]]) for k, name in enumerate(copies.names) for some in laid]
     stand, told = total == len(board), [f"piece {piece.name}: {rows_text(piece.cells)}" for piece in pieces if piece in alike]
     return Puzzle((items if stand else []) + [names[cell] for cell in board], ([] if stand else items) + ordering, options, told)
+
+
+def filled_board(board: str, pieces: str, flips: bool) -> Puzzle:
+    """The problem of a board, by its size or its file, and of pieces, by their names or their file."""
+    is_file = pieces == "-" or os.path.exists(pieces) or bool(re.search(r"[./]", pieces))
+    found = read_pieces(pieces) if is_file else named_pieces(pieces)
+    return filled(read_board(board), found, flips)

@@ -5,7 +5,7 @@ import re
 import sys
 import unicodedata
 from collections.abc import Iterable
-from dataclasses import dataclass, field
+from dataclasses import dataclass, field, replace
 from typing import Callable, NoReturn
 
 from .command_ends import complain, stop
@@ -15,6 +15,8 @@ NO_COVER, MISTAKE, UNREADABLE = 1, 2, 3
 TYPED = "the sudoku"
 # what the standard input had, since it can be read once
 READ: dict[str, bytes] = {}
+# the primary items, the secondary items and the options of a problem
+Lists = tuple[list[str], list[str], list[list[str]]]
 
 
 @dataclass
@@ -32,6 +34,10 @@ class Puzzle:
     options: list[list[str]]
     comments: list[str] = field(default_factory=list)
     changes: list[Change] = field(default_factory=list)
+
+    def told(self, note: str) -> Puzzle:
+        """The same problem, with this as its first comment."""
+        return replace(self, comments=[note, *self.comments])
 
     def text(self) -> bytes:
         """The text of the problem's file."""

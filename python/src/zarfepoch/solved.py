@@ -39,7 +39,6 @@ from collections import Counter
 from collections.abc import Iterator
 from typing import Optional
 
-from . import generate
 from .all_covers import Covers
 from .another import free_name, others_of
 from .answers import Answered, answered, planned, TRY_SECONDS
@@ -51,6 +50,7 @@ from .errors import NoProgram, OutOfMemory, ProgramError, TimeIsUp
 from .even_room import any_reason
 from .fault_words import plural
 from .impossible import core_of, core_words
+from .kinds import kinds_listed, kinds_of, problems_of
 from .mistyped import SECONDS as CHANGE_SECONDS, told_changes
 from .picture_base import Kind
 from .picture_kinds import picture_of
@@ -76,10 +76,10 @@ WAITING, MOST_MOVED = 10.0, 20
 
 
 def command_line() -> argparse.ArgumentParser:
-    parser = parser_of((__doc__ or "").replace("%KINDS%", textwrap.fill(generate.kinds_listed(), 130)))
+    parser = parser_of((__doc__ or "").replace("%KINDS%", textwrap.fill(kinds_listed(), 130)))
     parser.add_argument("--json", metavar="FILE", help="a problem in JSON, in place of a kind")
     parser.add_argument("--seconds", metavar="N", type=positive, help="how long a search may take (no limit where it isn't given)")
-    for words in generate.kinds_of(parser):
+    for words in kinds_of(parser):
         words.add_argument("--out", metavar="FILE.svg", help="where the picture is written, - for the standard output")
         if not words.prog.endswith("timetable"):
             which = words.add_mutually_exclusive_group()
@@ -287,7 +287,7 @@ def solve_kind(given: Namespace, words: list[str]) -> int:
     except NoProgram as why:
         stop(why)
     try:
-        found = generate.problems_of(given, words)
+        found = problems_of(given, words)
         if len(found) > 1:
             note_size(found[0])
     except PlainlyNone as why:

@@ -10,6 +10,7 @@ import copy
 import functools
 import itertools
 import math
+import os
 import re
 from collections import Counter
 from collections.abc import Iterable, Iterator, Sequence
@@ -286,6 +287,16 @@ def checked(path: str, sudoku: Sudoku, lines: list[int] | None) -> Sudoku:
             where += f" (boxes have {high} rows and {wide} columns here; --boxes {wide}x{high} turns them)"
         no_cover(f"{path}{line}: {kind}{number} has the digit {sudoku.mark(digit)} twice{where}", sudoku.without_digits(cells))
     return sudoku
+
+
+def is_typed(given: str) -> bool:
+    """Whether a sudoku is on the command line itself, and not in a file."""
+    return bool(re.fullmatch(r"[0-9._*?\s-]{4,}|[0-9._\s]+|[0-9A-Pa-p._\s]{16,}", given)) and not os.path.exists(given)
+
+
+def sudoku_of(rows: list[str]) -> Puzzle:
+    """The sudoku of rows of digits and dots."""
+    return Sudoku([[int(mark) if mark != "." else 0 for mark in row] for row in rows]).puzzle()
 
 
 def read_sudoku(given: str, is_text: bool, diagonals: bool = False, box: Cell | None = None, hyper: bool = False) -> Sudoku:

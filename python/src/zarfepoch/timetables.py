@@ -33,8 +33,8 @@ from .command_ends import complain
 from .cover_files import MAX_ITEMS, MAX_NAME, MAX_OPTIONS
 from .puzzle_texts import Puzzle, refuse
 from .timetable_files import Lesson
-from .timetable_plans import MOVED, Plan, preference
-from .timetable_rules import Rule, School
+from .timetable_plans import MOVED, Plan, preference, read_plan
+from .timetable_rules import read_school, Rule, School
 from .timetable_steps import all_periods, always, Block, blocks_of, by_days, Days, followers, Hour, hours_by_name, seats_of, Step, want_days
 from .weeks import day_of, in_week
 
@@ -485,3 +485,12 @@ def note_size(puzzle: Puzzle) -> None:
     if needed_items(puzzle) > NEAR * MAX_ITEMS:
         complain(f"this timetable fits, with {needed_items(puzzle):,} of at most {MAX_ITEMS:,} items")
 
+
+def read_timetables(path: str, rules: Optional[str], keep: Optional[str], seed: Optional[int]) -> list[Timetable]:
+    """The problem of a school's timetable, or several, from the files with its lessons and perhaps with its rules and a plan to be kept. A note tells
+    of one that is near what the program reads."""
+    school = read_school(path, rules)
+    found = timetables(school, read_plan(keep, school) if keep else None, seed)
+    if len(found) == 1:
+        note_size(found[0])
+    return found
