@@ -200,9 +200,6 @@ KINDS = (
 )
 # the same by their names and aliases
 BY_WORD = {word: kind for kind in KINDS for word in (kind.name, *kind.aliases)}
-# whoever names no kind that there is is told of all in this order, which isn't that of the table
-TOLD_ORDER = ("queens langford triples pentominoes tetrominoes dominoes squares board sudoku coloring matching timetable word-square nonogram kakuro "
-              "stars jigsaw killer cubes dominosa tents shikaku futoshiki kenken binairo crossword").split()
 
 
 # ---- texts
@@ -236,7 +233,7 @@ def told_words(given_words: list[str]) -> str:
 def kinds_of(parser: argparse.ArgumentParser) -> list[argparse.ArgumentParser]:
     """Adds the kinds to a command line; the command lines of all kinds."""
     kinds, found = parser.add_subparsers(dest="kind", metavar="KIND"), []
-    for kind in sorted(KINDS, key=lambda kind: TOLD_ORDER.index(kind.name)):
+    for kind in KINDS:
         words = kinds.add_parser(kind.name, aliases=kind.aliases, description=as_called(kind.help()),
                                  formatter_class=argparse.RawDescriptionHelpFormatter)
         for argument in kind.arguments:
