@@ -1,7 +1,7 @@
-//! A node by itself: whose book is soon full, which may name too few children, which waits for long, or whose outbox is full.
+//! A node by itself: whose book is soon full, which may name too few children, which nobody answers, which waits for long, or whose outbox is full.
 //!
-//! Of the bugs of `udp_node` that are kept outside the gate, `a_node_of_few_names` finds `searches_again_with_twice_the_fuel` and
-//! `nodes_never_say_again`, `a_node_of_a_small_book` finds `a_full_book_is_the_end_of_its_turns`, `an_idle_worker_stays` finds
+//! Of the bugs of `udp_node` that are kept outside the gate, `a_node_of_few_names` finds `searches_again_with_twice_the_fuel`,
+//! `a_lone_node_says_again` finds `nodes_never_say_again`, `a_node_of_a_small_book` finds `a_full_book_is_the_end_of_its_turns`, `an_idle_worker_stays` finds
 //! `idle_workers_leave_soon`, `each_packet_is_delivered` finds `aborts_and_refusals_are_dropped` and
 //! `packets_for_an_earlier_incarnation_are_taken`, and `a_full_outbox_loses_parcels` finds
 //! `a_full_outbox_is_no_loss`, and `jobs_grow` finds `jobs_never_grow`.
@@ -53,8 +53,7 @@ fn root_after(alloc: Global, late: u64) -> Result<Script, AllocError> {
     Ok(script)
 }
 
-/// It searches the root by one visit, which is too little, and then by sixteen, since it has no names for two children. What it found
-/// it says again, as nobody answers.
+/// It searches the root by one visit, which is too little, and then by sixteen, since it has no names for two children.
 #[test]
 fn a_node_of_few_names(rt: HostRuntime) -> Result<(), Fail> {
     let script = root_after(rt.alloc(), 0)?;
@@ -63,6 +62,14 @@ fn a_node_of_few_names(rt: HostRuntime) -> Result<(), Fail> {
         (ended.cause, ended.threads, ended.searches, ended.visits),
         (EndCause::Silence, 2, 2, 5)
     );
+    Ok(())
+}
+
+/// What it found it says again, as nobody answers.
+#[test]
+fn a_lone_node_says_again(rt: HostRuntime) -> Result<(), Fail> {
+    let script = root_after(rt.alloc(), 0)?;
+    let ended = run_alone(&rt, rt.alloc(), script, SILENT)?;
     assert!(rt; ended.agains > 0);
     Ok(())
 }
