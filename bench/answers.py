@@ -10,10 +10,11 @@ geometric mean of these, over the files on which the best took more than a tenth
 slower than `alone` on the others that it decides in a tenth of a second, in the mean and at most. A cover and a `none` for one file are a mistake. All
 run on so many processors, as far as there are so many, where a number is given: on one the two lanes of `answer` take turns.
 
-With --peers `answer` is beside other programs in place of our own commands, all by wall time: clasp behind gringo with one thread and with four, CaDiCaL, and
-HiGHS, which reads no colours. The line below the table says how many files each answered, and on how many it was first.
+With --peers `answer` is beside other programs in place of our own commands, all by wall time: clasp behind gringo with one thread and with four, CaDiCaL,
+HiGHS, which reads no colours, and Gecode, if its library is there (Debian's libgecode-dev), by the model of gecode.cpp. The line below the table says
+how many files each answered, and on how many it was first.
 
-It wants the program: (cd crates/solve_cli && rt run -- --version) builds it; --peers wants gringo, clasp, cadical and SciPy. The exit status is 0, 1 where
+It wants the program: (cd crates/solve_cli && rt run -- --version) builds it; --peers wants gringo, clasp, cadical and SciPy, and g++ for Gecode. The exit status is 0, 1 where
 two answers differ, 2 for a mistake on the command line or where there is no program.
 """
 from __future__ import annotations
@@ -26,6 +27,7 @@ import sys
 import tempfile
 import time
 from collections.abc import Callable, Iterator
+from functools import partial
 from typing import Optional
 
 import finding
@@ -109,13 +111,35 @@ def by_highs(file: str, seconds: int) -> Optional[bool]:
     return None if has_colours else highs(file, seconds)[0]
 
 
+def gecode_in(folder: str) -> Optional[str]:
+    """The program gecode.cpp, built in this folder; None without g++ or Gecode."""
+    program = os.path.join(folder, "gecode")
+    libraries = [f"-lgecode{name}" for name in ("search", "minimodel", "int", "kernel", "support")]
+    try:
+        built = subprocess.run(["g++", "-O2", "-std=c++17", "-o", program, os.path.join(HERE, "gecode.cpp"), *libraries], capture_output=True)
+    except FileNotFoundError:
+        return None
+    return program if built.returncode == 0 else None
+
+
+def by_gecode(program: str, file: str, seconds: int) -> Optional[bool]:
+    """Whether Gecode finds a cover."""
+    try:
+        text = subprocess.run([program, file], capture_output=True, timeout=seconds).stdout
+    except subprocess.TimeoutExpired:
+        return None
+    return {b"cover\n": True, b"none\n": False}.get(text)
+
+
 def said(text: bytes) -> Optional[bool]:
     """What a program of the kind that solves clauses says."""
     words = text.split()
     return True if b"SATISFIABLE" in words else False if b"UNSATISFIABLE" in words else None
 
 
-PEERS: dict[str, Callable[[str, int], Optional[bool]]] = {
+# how a program is asked about a file, for so many seconds
+Ask = Callable[[str, int], Optional[bool]]
+PEERS: dict[str, Ask] = {
     "answer": lambda file, seconds: asked(["answer"], file, seconds)[0],
     "clasp": lambda file, seconds: by_clasp(file, seconds, "1"),
     "clasp, 4 threads": lambda file, seconds: by_clasp(file, seconds, "4"),
@@ -124,14 +148,14 @@ PEERS: dict[str, Callable[[str, int], Optional[bool]]] = {
 }
 
 
-def beside_peers(files: Iterator[str], seconds: int) -> bool:
+def beside_peers(files: Iterator[str], seconds: int, peers: dict[str, Ask]) -> bool:
     """Prints a row of wall times for each file, who answered and who was first. Whether the answers agree."""
-    answered, first, agree = dict.fromkeys(PEERS, 0), dict.fromkeys(PEERS, 0), True
-    print(f"| File | Answer | {' | '.join(PEERS)} |\n" + "|" + "---|" * (len(PEERS) + 2))
+    answered, first, agree = dict.fromkeys(peers, 0), dict.fromkeys(peers, 0), True
+    print(f"| File | Answer | {' | '.join(peers)} |\n" + "|" + "---|" * (len(peers) + 2))
     for file in files:
         took: dict[str, float] = {}
         found: set[bool] = set()
-        for name, ask in PEERS.items():
+        for name, ask in peers.items():
             began = time.perf_counter()
             answer = ask(file, seconds)
             if answer is not None:
@@ -141,7 +165,7 @@ def beside_peers(files: Iterator[str], seconds: int) -> bool:
             first[min(took, key=lambda name: took[name])] += 1
         agree &= len(found) < 2
         word = "DIFFER" if len(found) > 1 else "cover" if True in found else "none" if found else "-"
-        cells = " | ".join(f"{took[name]:.3f}" if name in took else "-" for name in PEERS)
+        cells = " | ".join(f"{took[name]:.3f}" if name in took else "-" for name in peers)
         print(f"| {os.path.basename(file).removesuffix('.dlx')} | {word} | {cells} |", flush=True)
     print("answered: " + ", ".join(f"{name} {count}" for name, count in answered.items()))
     print("first: " + ", ".join(f"{name} {count}" for name, count in first.items()))
@@ -159,8 +183,10 @@ def main() -> int:
     want_program(SOLVE_CLI)
     os.sched_setaffinity(0, sorted(os.sched_getaffinity(0))[:given.processors])
     if given.peers:
-        with tempfile.TemporaryDirectory() as folder:
-            return 0 if beside_peers(files_of(folder, given.files), given.seconds) else 1
+        with tempfile.TemporaryDirectory() as folder, tempfile.TemporaryDirectory() as built:
+            program = gecode_in(built)
+            gecode: dict[str, Ask] = {"Gecode": partial(by_gecode, program)} if program else {}
+            return 0 if beside_peers(files_of(folder, given.files), given.seconds, {**PEERS, **gecode}) else 1
     print(f"| File | Answer | {' | '.join(' '.join(way) for way in WAYS)} | Ratio |")
     print("|" + "---|" * (len(WAYS) + 3))
     ratios, later, agree = [], [], True
