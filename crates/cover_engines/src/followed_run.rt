@@ -1,6 +1,6 @@
 //! How far a run of sites has come, and why it ended.
 
-use crate::end_causes::EndCauses;
+use crate::first_cause::FirstCause;
 use crate::overcounts::Overcounts;
 use brancher::{Finding, Outcome};
 use cover_problem::Problem;
@@ -36,7 +36,7 @@ struct State<'a, E: Sink> {
     /// A site has ended with which the run ends: no line follows.
     is_ended: bool,
     /// Why there is no answer, if the run ends without one.
-    causes: EndCauses,
+    cause: FirstCause,
 }
 
 impl<'a, E: Sink, R: Wait + Clock> FollowedRun<'a, E, R> {
@@ -56,7 +56,7 @@ impl<'a, E: Sink, R: Wait + Clock> FollowedRun<'a, E, R> {
             share: 0,
             jobs: 0,
             is_ended: false,
-            causes: EndCauses::new(),
+            cause: FirstCause::new(),
         };
         Ok(FollowedRun {
             rt,
@@ -163,7 +163,7 @@ impl<'a, E: Sink, R: Wait + Clock> Follower for FollowedRun<'a, E, R> {
     fn ended(&self, _node: u8, end: &SiteEnd) {
         let mut state = self.state.lock(self.rt);
         state.end();
-        state.causes.hear(end);
+        state.cause.hear(end);
     }
 
     /// Where there is no answer, the reason is written.
@@ -171,7 +171,7 @@ impl<'a, E: Sink, R: Wait + Clock> Follower for FollowedRun<'a, E, R> {
         let mut state = self.state.lock(self.rt);
         state.end();
         if !is_answered {
-            let reason = state.causes.why();
+            let reason = state.cause.why();
             state.log.write_reason(reason);
         }
     }

@@ -2,7 +2,7 @@
 #![tactic(auto)]
 
 mod audited;
-mod end_causes;
+mod first_cause;
 mod followed_run;
 mod machine;
 mod memory_share;

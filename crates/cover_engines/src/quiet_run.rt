@@ -1,6 +1,6 @@
 //! A run that is not followed.
 
-use crate::end_causes::EndCauses;
+use crate::first_cause::FirstCause;
 use crate::overcounts::Overcounts;
 use brancher::Finding;
 use dlx_reader::Sink;
@@ -20,7 +20,7 @@ pub struct QuietRun<'a, E: Sink, R: Wait> {
 #[derive(Drop)]
 struct Heard<'a, E: Sink> {
     sink: &'a mut E,
-    causes: EndCauses,
+    cause: FirstCause,
     /// Why there is no answer, once the run is over without one.
     unanswered: Option<&'static str>,
 }
@@ -30,7 +30,7 @@ impl<'a, E: Sink, R: Wait> QuietRun<'a, E, R> {
     pub fn new(rt: &'a R, sink: &'a mut E) -> QuietRun<'a, E, R> {
         let heard = Heard {
             sink,
-            causes: EndCauses::new(),
+            cause: FirstCause::new(),
             unanswered: None,
         };
         QuietRun {
@@ -58,13 +58,13 @@ impl<'a, E: Sink, R: Wait> Follower for QuietRun<'a, E, R> {
     }
 
     fn ended(&self, _node: u8, end: &SiteEnd) {
-        self.state.lock(self.rt).causes.hear(end);
+        self.state.lock(self.rt).cause.hear(end);
     }
 
     fn finished(&self, is_answered: bool) {
         let mut state = self.state.lock(self.rt);
         if !is_answered {
-            state.unanswered = Some(state.causes.why());
+            state.unanswered = Some(state.cause.why());
         }
     }
 }

@@ -82,7 +82,7 @@ impl Ending {
     }
 
     /// Why a site ends with the run that ends now: its time is over, or another site has ended it.
-    pub fn why_it_ends<R: Clock>(&self, rt: &R) -> EndCause {
+    pub fn cause<R: Clock>(&self, rt: &R) -> EndCause {
         if self.is_late(rt) {
             EndCause::Time
         } else {

@@ -100,7 +100,7 @@ fn work<J: Run, C: Core + Drop, N: CellName, H: Gate + Follower, R: Wait + Clock
     let shared = actor.shared;
     // (a thread that is only started once the others have ended must not count as begun, or the site would seem manned)
     if shared.is_to_end(rt) {
-        return shared.context.ending.why_it_ends(rt);
+        return shared.context.ending.cause(rt);
     }
     shared.signals.begin_working();
     shared.muster(rt);
@@ -124,7 +124,7 @@ fn receive<J: Run, C: Core + Drop, N: CellName, L: Link, H: Gate + Follower, R: 
 ) -> EndCause {
     let shared = actor.shared;
     if shared.is_to_end(rt) {
-        return shared.context.ending.why_it_ends(rt);
+        return shared.context.ending.cause(rt);
     }
     shared.signals.begin_receiving();
     shared.muster(rt);

@@ -163,7 +163,7 @@ impl<
     /// A turn: greets the registry now and then, receives, and says again what may be lost.
     fn turn(&mut self) -> Turn {
         self.receiver.now = self.receiver.time.look(self.rt);
-        if let Some(cause) = self.why_it_ends() {
+        if let Some(cause) = self.cause_before_receive() {
             return self.receiver.ended_by(cause);
         }
         let greeted = self.greet();
@@ -178,7 +178,7 @@ impl<
     }
 
     /// Why the thread ends before it receives once more, if it does.
-    fn why_it_ends(&self) -> Option<EndCause> {
+    fn cause_before_receive(&self) -> Option<EndCause> {
         let (shared, schedule) = (self.actor.shared, &self.receiver.schedule);
         if schedule.is_spent(self.receiver.now) || schedule.has_announced() {
             Some(EndCause::Turns)
@@ -204,7 +204,7 @@ impl<
     /// Receives once, and looks whether the site can go on. Whether the run is over is read before the receive: the registry announces the
     /// end first, so a receive that is empty after that shows that the node has received it, or never will.
     fn receive(&mut self) -> Turn {
-        let ending = self.actor.shared.why_to_end(self.rt);
+        let ending = self.actor.shared.cause_once_drained(self.rt);
         let mut buffer = [0; BUFFER];
         let received = self.receiver.received(self.rt, &mut buffer);
         let is_empty = received == Ok(None);

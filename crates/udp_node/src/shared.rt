@@ -45,11 +45,11 @@ impl<J: Run, C: Core + Drop, N: CellName, H: Gate + Follower> Shared<'_, J, C, N
     }
 
     /// Why the thread that receives is to end, if it is: with the site or the run, or since no worker is left.
-    pub fn why_to_end<R: Clock>(&self, rt: &R) -> Option<EndCause> {
+    pub fn cause_once_drained<R: Clock>(&self, rt: &R) -> Option<EndCause> {
         // (the registry has no workers, so its one thread that acts is alone from the start)
         let is_deserted = self.cell.site().node != 0 && self.signals.is_deserted();
         if is_deserted || self.is_to_end(rt) {
-            Some(self.context.ending.why_it_ends(rt))
+            Some(self.context.ending.cause(rt))
         } else {
             None
         }

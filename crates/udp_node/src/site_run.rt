@@ -95,7 +95,7 @@ impl<J: Run, L: Link> SiteRun<J, L> {
         ensures { self.new.node ≡ self.old.node }
     {
         if self.node != 0 && !run_context.context.ending.await_registry(rt) {
-            self.end.cause = run_context.context.ending.why_it_ends(rt);
+            self.end.cause = run_context.context.ending.cause(rt);
             run_context.end(self.node, &self.end);
             return;
         }

@@ -214,7 +214,7 @@ fn a_run_ends_by_its_limit_or_by_a_site(rt: HostRuntime) {
         ending.raise();
         assert!(rt; ending.has_come(&clock));
         let told = cause.unwrap_or(EndCause::Stopped);
-        assert_eq!(rt; ending.why_it_ends(&clock), told, "{shown}");
+        assert_eq!(rt; ending.cause(&clock), told, "{shown}");
     }
 }
 

@@ -4,21 +4,21 @@ use udp_node::{EndCause, SiteEnd};
 
 /// Why the sites of a run ended, as far as it says why the run has no answer.
 #[derive(Clone, Copy)]
-pub(crate) struct EndCauses {
+pub(crate) struct FirstCause {
     /// Why the first site ended that didn't end with the search, if one did.
     first: Option<&'static str>,
 }
 
-impl EndCauses {
+impl FirstCause {
     /// Of a run in which no site has ended.
-    pub(crate) fn new() -> EndCauses {
-        EndCauses { first: None }
+    pub(crate) fn new() -> FirstCause {
+        FirstCause { first: None }
     }
 
     /// Notes that a site has ended so. The first that didn't end with the search is kept, since the others end because of it.
     pub(crate) fn hear(&mut self, end: &SiteEnd) {
         if end.cause != EndCause::Over && self.first.is_none() {
-            self.first = Some(why_it_ended(end));
+            self.first = Some(cause_text(end));
         }
     }
 
@@ -30,7 +30,7 @@ impl EndCauses {
 }
 
 /// Why a site ended so, with what may help.
-fn why_it_ended(end: &SiteEnd) -> &'static str {
+fn cause_text(end: &SiteEnd) -> &'static str {
     match end.cause {
         EndCause::Over => "the search is over",
         EndCause::BookFull => "a book is full: try more --entries, or answer",
