@@ -18,9 +18,9 @@ fn name_by(alloc: Global, bytes: &[u8]) -> Result<Name, AllocError>
     Ok(Name::from_vec(Vec::from_slice(alloc, bytes)?))
 }
 
-/// The names of the problem's items.
+/// A copy of the names of the problem's items. The only error is out of memory.
 #[tactic(auto, using(crate::proofs::Behind::one_more_of, crate::proofs::Behind::all_of))]
-fn names_of(alloc: Global, problem: &Problem) -> Result<Vec<Name>, AllocError>
+pub fn names_of(alloc: Global, problem: &Problem) -> Result<Vec<Name>, AllocError>
     ensures { IfOk result (λ names. names.items ≡ problem.now.names) }
 {
     let mut names = Vec::with_capacity(alloc, problem.items() + 1)?;
@@ -41,9 +41,9 @@ fn names_with(alloc: Global, problem: &Problem, name: &[u8]) -> Result<Vec<Name>
     Ok(names)
 }
 
-/// The names of the colours.
+/// A copy of the names of its colours. The only error is out of memory.
 #[tactic(auto, using(crate::proofs::Behind::one_more_of, crate::proofs::Behind::all_of))]
-fn colour_names_of(alloc: Global, problem: &Problem) -> Result<Vec<Name>, AllocError>
+pub fn colour_names_of(alloc: Global, problem: &Problem) -> Result<Vec<Name>, AllocError>
     ensures { IfOk result (λ names. names.items ≡ problem.now.colour_names) }
 {
     let mut names = Vec::with_capacity(alloc, problem.colour_names())?;

@@ -1,7 +1,9 @@
--- The lines of a reason: its kind, and a line for each item that counts; and those of cliques.
+-- The lines of a reason: its kind, and a line for each item that counts; those of cliques, and of cases.
 use Rattle.std.specs.Prelude.{ℕ, List, [], ◌∷◌, ◌++◌, length, codes, ◌==◌, if◌then◌else◌}
 use Rattle.std.specs.Fmt.{decimal}
 use Rattle.std.specs.List.{flat_map, range_with_len}
+use Rattle.case_reasons.specs.declared.case.Case.{Case}
+use Rattle.case_reasons.specs.declared.case.Cases.{Cases}
 use Rattle.clash_cliques.specs.declared.clique.Clique.{Clique}
 use Rattle.cover_problem.specs.Problem.{Problem}
 use Rattle.cover_reasons.specs.Room.{Room, amount_of}
@@ -34,3 +36,11 @@ number_text number = 32 ∷ decimal number
 -- the name of a clique and the numbers of its options
 abbrev pub clique_text : Clique → List ℕ
 clique_text clique = codes "clique " ++ clique.name ++ flat_map number_text clique.options ++ codes "\n"
+
+-- the number of an option, and the lines of a reason, by the items of the problem
+abbrev pub case_text : Problem → Case → List ℕ
+case_text problem case = codes "case" ++ number_text case.option ++ codes "\n" ++ kind_text problem case.reason
+
+-- the name of an item, and the lines of its cases
+abbrev pub cases_text : Problem → Cases → List ℕ
+cases_text problem cases = codes "cases " ++ name_text problem cases.item ++ codes "\n" ++ flat_map (case_text problem) cases.list.items

@@ -1,11 +1,13 @@
-//! Why a problem has no exact cover: a reason of it as it stands, with those items primary that each exact cover uses, or with items for cliques.
+//! Why a problem has no exact cover: a reason of it as it stands, with those items primary that each exact cover uses, or with items for cliques;
+//! or a reason for each option of an item, once that is chosen.
 
 ghost use Rattle.std.specs.Prelude.{◌≡◌, [], ◌++◌, codes, IfOk, IfSome};
 ghost use Rattle.cover_problem.specs.Prefix.{IsBarren};
 ghost use Rattle.reason_engine.specs.Causes.{IsCause, cause_text};
 ghost use Rattle.used_items.specs.Orders.{IsPromoted};
 
-use crate::text::{clique_lines_of, lines_of, promoted_lines_of};
+use crate::text::{cases_lines_of, clique_lines_of, lines_of, promoted_lines_of};
+use case_reasons::{Cases, find_cases_until};
 use clash_cliques::{RoomByCliques, find_room_by_cliques};
 use cover_problem::Problem;
 use cover_reasons::{Reason, ReasonWatch, find_fractional_reason_until, find_short_reason_until};
@@ -21,6 +23,8 @@ pub enum Cause {
     ByUsedItems(WithUsedItems, Reason),
     /// Too little room of the problem with items for cliques of options that clash.
     ByCliques(RoomByCliques),
+    /// A reason for each option of an item, once that is chosen.
+    ByCases(Cases),
 }
 
 /// A cause by the problem that was made with more items primary, if a reason of that is found before the watch ends it. The only error is out
@@ -89,8 +93,23 @@ fn cause_by_implied<W: ReasonWatch>(
     }
 }
 
-/// A cause by multipliers of any size. The only error is out of memory.
-fn cause_by_multipliers<W: ReasonWatch>(
+/// A cause by the options of an item. The only error is out of memory.
+fn cause_by_cases<W: ReasonWatch>(
+    alloc: Global,
+    problem: &Problem,
+    watch: &mut W,
+) -> Result<Option<Cause>, AllocError>
+    ensures cause { IfOk result (λ found. IfSome found (IsCause problem.now)) }
+    ensures barren { IfOk result (λ found. IfSome found (λ cause. IsBarren problem.now [])) }
+{
+    match find_cases_until(alloc, problem, watch)? {
+        Some(cases) => Ok(Some(Cause::ByCases(cases))),
+        None => Ok(None),
+    }
+}
+
+/// A cause by multipliers of any size, or else by cases. The only error is out of memory.
+fn cause_by_multipliers_or_cases<W: ReasonWatch>(
     alloc: Global,
     problem: &Problem,
     watch: &mut W,
@@ -100,11 +119,12 @@ fn cause_by_multipliers<W: ReasonWatch>(
 {
     match find_fractional_reason_until(alloc, problem, watch)? {
         Some(reason) => Ok(Some(Cause::AsItStands(reason))),
-        None => Ok(None),
+        None => cause_by_cases(alloc, problem, watch),
     }
 }
 
-/// A cause that takes longer to find than a short reason: by what the problem implies, or else by multipliers of any size, which take longest.
+/// A cause that takes longer to find than a short reason: by what the problem implies, or else by multipliers of any size, which take longer, or
+/// else by cases, each of which takes as long again.
 fn cause_at_length<W: ReasonWatch>(
     alloc: Global,
     problem: &Problem,
@@ -115,12 +135,12 @@ fn cause_at_length<W: ReasonWatch>(
 {
     match cause_by_implied(alloc, problem, watch)? {
         Some(cause) => Ok(Some(cause)),
-        None => cause_by_multipliers(alloc, problem, watch),
+        None => cause_by_multipliers_or_cases(alloc, problem, watch),
     }
 }
 
-/// Why the problem has no exact cover, as it stands, with those items primary that each exact cover uses, or with items for cliques of options
-/// that clash, if that is found before the watch ends it. Where none is found there may be a cover or none. The only error is out of memory.
+/// Why the problem has no exact cover, as it stands, with those items primary that each exact cover uses, with items for cliques of options
+/// that clash, or by cases, if that is found before the watch ends it. Where none is found there may be a cover or none. The only error is out of memory.
 pub fn find_cause_until<W: ReasonWatch>(
     alloc: Global,
     problem: &Problem,
@@ -143,6 +163,7 @@ pub fn cause_lines(alloc: Global, problem: &Problem, cause: &Cause) -> Result<Ve
         Cause::AsItStands(reason) => lines_of(alloc, problem, reason),
         Cause::ByUsedItems(made, reason) => promoted_lines_of(alloc, problem, made, reason),
         Cause::ByCliques(by) => clique_lines_of(alloc, by),
+        Cause::ByCases(cases) => cases_lines_of(alloc, problem, cases),
     }
 }
 

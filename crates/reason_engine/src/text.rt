@@ -5,8 +5,9 @@ ghost use Rattle.std.specs.List.{flat_map};
 ghost use Rattle.std.specs.Fmt.{decimal};
 ghost use Rattle.cover_reasons.specs.Room.{amount_of};
 ghost use Rattle.dlx_reader.specs.Writing.{name_text};
-ghost use Rattle.reason_engine.specs.ReasonText.{line_text, lines_text, room_text, kind_text, number_text, clique_text};
+ghost use Rattle.reason_engine.specs.ReasonText.{line_text, lines_text, room_text, kind_text, number_text, clique_text, case_text, cases_text};
 
+use case_reasons::{Case, Cases};
 use clash_cliques::{Clique, RoomByCliques};
 use cover_problem::Problem;
 use cover_reasons::{Reason, Room, Weights};
@@ -207,5 +208,53 @@ pub fn clique_lines_of(alloc: Global, by: &RoomByCliques) -> Result<Vec<u8>, All
     let mut text = Vec::from_slice(alloc, b"cliques\n")?;
     push_cliques(&mut text, &by.cliques)?;
     push_lack(&mut text, &by.problem, &by.room)?;
+    Ok(text)
+}
+
+/// Adds the lines of a case to a text.
+fn push_case(text: &mut Vec<u8>, problem: &Problem, case: &Case) -> Result<(), AllocError>
+    ensures { OnOk result
+        (text.new.items ≡ text.old.items ++ case_text problem.now case.now) }
+{
+    text.extend_from_slice(b"case")?;
+    push_number(text, u32::from(case.option))?;
+    text.extend_from_slice(b"\n")?;
+    push_reason(text, problem, &case.reason)
+}
+
+/// Adds the lines of cases to a text.
+#[tactic(auto, using(crate::proofs::Lines::pieces_more, crate::proofs::Lines::all_pieces))]
+fn push_list(text: &mut Vec<u8>, problem: &Problem, list: &[Case]) -> Result<(), AllocError>
+    ensures { OnOk result
+        (text.new.items ≡ text.old.items ++ flat_map (case_text problem.now) list.now) }
+{
+    for case in list {
+        push_case(text, problem, case)?;
+    }
+    Ok(())
+}
+
+/// Returns the name of an item; nothing where there is no such item.
+fn name_of(problem: &Problem, item: u16) -> &[u8]
+    ensures { result.now ≡ name_text problem.now item }
+{
+    if (item as usize) < problem.items() {
+        return problem.name(item);
+    }
+    &[]
+}
+
+/// Returns the lines of the cases of an item. The only error is out of memory.
+pub fn cases_lines_of(
+    alloc: Global,
+    problem: &Problem,
+    cases: &Cases,
+) -> Result<Vec<u8>, AllocError>
+    ensures { IfOk result (λ text. text.items ≡ cases_text problem.now cases.now) }
+{
+    let mut text = Vec::from_slice(alloc, b"cases ")?;
+    text.extend_from_slice(name_of(problem, cases.item))?;
+    text.extend_from_slice(b"\n")?;
+    push_list(&mut text, problem, &cases.list)?;
     Ok(text)
 }

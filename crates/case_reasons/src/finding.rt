@@ -1,0 +1,100 @@
+//! The search for an item whose options all have a case.
+
+ghost use Rattle.std.specs.Prelude.{◌≡◌, ◌<◌, [], length, true, None, IfOk, IfSome};
+ghost use Rattle.cover_problem.specs.Prefix.{IsBarren};
+ghost use Rattle.cover_problem.specs.Search.{first};
+ghost use Rattle.case_reasons.specs.Cases.{AreCases, is_case};
+
+use crate::case::{Case, Cases};
+use crate::choosing::after_choice;
+use crate::laws::cases_exclude_covers;
+use crate::trying::{items_to_try, shortest_of};
+use cover_problem::{Problem, option_names};
+use cover_reasons::{ReasonWatch, find_reason_until};
+use std::alloc::{AllocError, Global};
+
+/// A reason of the problem once the option is chosen, if one is found before the watch ends that. The only error is out of memory.
+fn case_of<W: ReasonWatch>(
+    alloc: Global,
+    problem: &Problem,
+    option: u16,
+    watch: &mut W,
+) -> Result<Option<Case>, AllocError>
+    requires { option < length problem.now.options }
+    ensures case { IfOk result (λ found. IfSome found (λ case. is_case problem.now case ≡ true)) }
+    ensures option { IfOk result (λ found. IfSome found (λ case. case.option ≡ option)) }
+{
+    match after_choice(alloc, problem, option)? {
+        Some(made) => match find_reason_until(alloc, &made, watch)? {
+            Some(reason) => Ok(Some(Case { option, reason })),
+            None => Ok(None),
+        },
+        None => Ok(None),
+    }
+}
+
+/// A case for each option that names the item, in file order; none once one of them has none.
+fn cases_of<W: ReasonWatch>(
+    alloc: Global,
+    problem: &Problem,
+    item: u16,
+    watch: &mut W,
+) -> Result<Option<Cases>, AllocError>
+    requires { item < problem.now.primary }
+    ensures { IfOk result (λ found. IfSome found (AreCases problem.now)) }
+{
+    let mut list = Vec::new(alloc);
+    for option in 0..problem.options() as u16 {
+        if option_names(problem, option, item) {
+            match case_of(alloc, problem, option, watch)? {
+                Some(case) => list.push(case)?,
+                None => return Ok(None),
+            }
+        }
+    }
+    Ok(Some(Cases { item, list }))
+}
+
+/// Whether the shortest option of the item, which excludes least, has a case: else the others needn't be tried.
+fn is_promising<W: ReasonWatch>(
+    alloc: Global,
+    problem: &Problem,
+    item: u16,
+    watch: &mut W,
+) -> Result<bool, AllocError> {
+    match shortest_of(problem, item) {
+        Some(option) if (option as usize) < problem.options() => {
+            Ok(case_of(alloc, problem, option, watch)?.is_some())
+        }
+        _ => Ok(false),
+    }
+}
+
+/// The cases of an item, if a few that are tried have one all of whose options have a case, and the watch doesn't end that before. Then there is no
+/// exact cover.
+///
+/// Where none is found there may be a cover or none. It takes as long as to look for a reason some five times, and once more for each option of the
+/// item that it finds. The only error is out of memory.
+pub fn find_cases_until<W: ReasonWatch>(
+    alloc: Global,
+    problem: &Problem,
+    watch: &mut W,
+) -> Result<Option<Cases>, AllocError>
+    ensures cases { IfOk result (λ found. IfSome found (AreCases problem.now)) }
+    ensures barren { IfOk result (λ found. IfSome found (λ cases. IsBarren problem.now [])) }
+    ensures none { IfOk result (λ found. IfSome found (λ cases. first problem.now [] ≡ None)) }
+{
+    cases_exclude_covers();
+    problem.recall_rules();
+    for item in items_to_try(alloc, problem)?.iter() {
+        if watch.look() {
+            return Ok(None);
+        }
+        if (*item as usize) < problem.primary() && is_promising(alloc, problem, *item, watch)? {
+            if let Some(cases) = cases_of(alloc, problem, *item, watch)? {
+                return Ok(Some(cases));
+            }
+        }
+    }
+    Ok(None)
+}
