@@ -154,6 +154,15 @@ def corners(columns: int) -> str:
                  [[cell for cell in square if cell != left_out] for square in squares for left_out in square])
 
 
+def odd_pieces(size: int) -> str:
+    """A board of so many rows and columns for an X and an I of five cells each, and dominoes."""
+    cross, bar = [(0, 1), (1, 0), (1, 1), (1, 2), (2, 1)], [(0, k) for k in range(5)]
+    shapes = [("X", cross), ("I", bar), ("I", [(c, r) for r, c in bar]), ("", bar[:2]), ("", [(0, 0), (1, 0)])]
+    options = [[*filter(None, [piece]), *(f"{r + down}-{c + right}" for down, right in shape)] for piece, shape in shapes
+               for r in range(size) for c in range(size) if all(r + down < size and c + right < size for down, right in shape)]
+    return lines(["X", "I", *(f"{r}-{c}" for r in range(size) for c in range(size))], [], options)
+
+
 FAMILIES = [
     ("25 lessons in 24 periods", lessons(25, 24), "too little room: 25 needed, 24 there"),
     ("24 lessons in 24 periods", lessons(24, 24), None),
@@ -170,6 +179,7 @@ FAMILIES = [
     *((f"{teams} teams on {teams} courts", courts(teams), f"too little room: {2 * teams} needed, {teams + 2} there") for teams in (5, 7, 9)),
     *((f"3 rows of {columns} by pieces like an L", corners(columns), f"too little room: {2 * columns + 2} needed, {2 * columns - 1} there")
       for columns in (3, 5, 7)),
+    *((f"an X, an I and dominoes on {size} rows", odd_pieces(size), f"{(size - 2) ** 2} cases of X") for size in (6, 8, 10)),
     ("triples of 9 points", triples(9), None),
     ("triples of 10 points", triples(10), "weights modulo 2"),
     ("triples of 11 points", triples(11), "weights modulo 3"),
@@ -184,6 +194,8 @@ def said_of(text: str) -> Optional[str]:
     reason = Reason(written)
     if not (is_checked(text, written) and reason.holds(read_problem(text.encode()))):
         return "a reason that doesn't hold"
+    if reason.item:
+        return f"{len(reason.cases)} cases of {reason.item.decode()}"
     kind = (f"weights modulo {reason.modulus}" if reason.modulus else
             f"too little room: {sum(reason.needs.values())} needed, {sum(reason.rooms.values())} there")
     return "cliques, " * bool(reason.cliques) + "just enough room, " * bool(reason.full_rooms) + kind
@@ -245,6 +257,15 @@ def test_odd_words(tmp_path: pathlib.Path) -> None:
     for wrong in ("clique q 0 1 3", "clique q 0 1 4", "clique q 0 1 -2", "clique x 0 1 2", "clique q 0 1 2\nclique q 0", "clique q 1",
                   "clique q:1 0 1 2"):
         assert checked(cliques.replace("clique q 0 1 2", wrong), text=held)[0] == 1, wrong
+    halves = "a b c d\na b\na c\nb c\nb d\nc d\n"
+    cases = "none\ncases a\ncase 0\ntoo little room\nneed 1 c\nneed 1 d\nroom 1 b\ncase 1\ntoo little room\nneed 1 b\nneed 1 d\nroom 1 c\n"
+    triangle = "a b c\na b\nb c\na c\n"
+    of_triangle = "none\ncases a\ncase 0\ntoo little room\nneed 1 c\ncase 2\ntoo little room\nneed 1 b\n"
+    assert checked(of_triangle, text=triangle) == (0, "right"), "cases"
+    assert checked(cases, text=halves)[0] == 1, "cases of a problem with a cover"
+    for old, new in (("cases a", "cases b"), ("cases a", "cases x"), ("cases a", "cases"), ("case 2", "case 1"), ("case 2", "case 3"), ("case 2\n", ""),
+                     ("need 1 c", "need 1 a"), ("need 1 b", "room 1 b"), ("case 0\ntoo little room\nneed 1 c\n", "")):
+        assert checked(of_triangle.replace(old, new), text=triangle)[0] == 1, (old, new)
     assert checked(room + "need 1 x\n")[0] == 1, "a need too many"
     assert checked(room + "room 1 c\n")[0] == 1, "just room"
     for what, text in (("an unknown item", "a b\na c\n"), ("an item twice in an option", "a b\na b a b\n"), ("no items", "")):

@@ -70,6 +70,23 @@ fn is_promising<W: ReasonWatch>(
     }
 }
 
+/// The cases of an item that is tried, if they are found.
+fn cases_tried<W: ReasonWatch>(
+    alloc: Global,
+    problem: &Problem,
+    item: u16,
+    watch: &mut W,
+) -> Result<Option<Cases>, AllocError>
+    ensures { IfOk result (λ found. IfSome found (AreCases problem.now)) }
+{
+    let is_primary = (item as usize) < problem.primary();
+    if is_primary && is_promising(alloc, problem, item, watch)? {
+        cases_of(alloc, problem, item, watch)
+    } else {
+        Ok(None)
+    }
+}
+
 /// The cases of an item, if a few that are tried have one all of whose options have a case, and the watch doesn't end that before. Then there is no
 /// exact cover.
 ///
@@ -90,10 +107,8 @@ pub fn find_cases_until<W: ReasonWatch>(
         if watch.look() {
             return Ok(None);
         }
-        if (*item as usize) < problem.primary() && is_promising(alloc, problem, *item, watch)? {
-            if let Some(cases) = cases_of(alloc, problem, *item, watch)? {
-                return Ok(Some(cases));
-            }
+        if let Some(cases) = cases_tried(alloc, problem, *item, watch)? {
+            return Ok(Some(cases));
         }
     }
     Ok(None)

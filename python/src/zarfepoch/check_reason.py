@@ -6,7 +6,8 @@ REASON is a file with what `why` wrote, or - for the standard input. No search a
 each primary item once. So where the weights in each option are a multiple of the modulus, all weights together are one; and where
 each option brings as much room as it needs, all needs together are at most all rooms. Where they are as much, the cover also names each item that
 has room once, so a reason behind it counts these as primary. Of a clique, options each two of which clash, the cover has one at most, so an item that
-all of them name may have room, too.
+all of them name may have room, too. And of the options of a primary item the cover has just one, so where each of them has a reason that holds of the
+options that are left beside it, there is none.
 
 The exit status is 0 where the reason holds, 1 where it doesn't, 2 for a mistake on the command line, 3 for a file that can't be read, or a FILE
 that the program refuses.
@@ -31,6 +32,8 @@ def check(problem: Lines, reason: Lines) -> str:
     primary = set(items[:bar])
     options = [option for option in options if primary.intersection(option)]    # a line without a primary item is no option of a problem
     lines = reason[1:]
+    if lines[0][0] == b"cases":
+        return check_cases(primary, options, lines)
     if lines[0] == [b"cliques"]:
         end = next(place for place, words in enumerate(lines) if place and words[0] != b"clique")
         wrong = add_cliques(items, options, lines[1:end])
@@ -49,7 +52,11 @@ def check(problem: Lines, reason: Lines) -> str:
             return wrong
         primary.update(name for name, room in rooms.items() if room)
         lines = lines[end:]
+    return add_up(primary, options, lines)
 
+
+def add_up(primary: set[bytes], options: Lines, lines: Lines) -> str:
+    """What is wrong with weights, or needs and rooms; nothing where they show that there is no cover."""
     head, *lines = lines
     weights, needs, rooms = amounts_of(lines)
     if not primary.issuperset([*weights, *needs]):
@@ -61,6 +68,23 @@ def check(problem: Lines, reason: Lines) -> str:
                 return f"the weights in this option are no multiple of {modulus}: {shown(b' '.join(option))}"
         return "" if sum(weights.values()) % modulus else f"all weights together are a multiple of {modulus}"
     return unfit(options, needs, rooms) or ("" if sum(needs.values()) > sum(rooms.values()) else "all needs together are no more than all rooms")
+
+
+def check_cases(primary: set[bytes], options: Lines, lines: Lines) -> str:
+    """What is wrong with a reason for each option of an item; nothing where each holds of that option and those that don't clash with it."""
+    _, item = lines[0]
+    heads = [place for place, words in enumerate(lines) if words[0] == b"case"]
+    numbers = [int(number) for _, number in (lines[place] for place in heads)]
+    if item not in primary:
+        return f"the item of the cases isn't primary: {shown(item)}"
+    if numbers != [number for number, option in enumerate(options) if item in option]:
+        return f"the cases aren't those of each option that names {shown(item)}, in the order of the file"
+    for number, head, end in zip(numbers, heads, [*heads[1:], len(lines)]):
+        left = [other for place, other in enumerate(options) if place == number or not clash(options[number], other)]
+        wrong = add_up(primary, left, lines[head + 1:end])
+        if wrong:
+            return f"in case {number}, {wrong}"
+    return ""
 
 
 def amounts_of(lines: Lines) -> list[dict[bytes, int]]:

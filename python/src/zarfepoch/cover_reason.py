@@ -2,11 +2,13 @@
 
 A reason is either weights of primary items modulo a number, or what primary items need and the room that items have for it. Room that is just
 enough may stand before it: then each cover uses the items that have some, and they count as primary behind it. Cliques may stand before that, options
-each two of which clash: each is an item, too, and a cover has one option of it at most.
+each two of which clash: each is an item, too, and a cover has one option of it at most. Or it is a reason for each option of an item, of what is left
+beside that one.
 `docs/FORMAT.md` has the text; `holds` is all that has to be believed.
 """
 from __future__ import annotations
 
+import copy
 import itertools
 import re
 import subprocess
@@ -24,17 +26,34 @@ Named = Callable[[bytes], str]
 SHOWN = 12
 LINE = re.compile(rb"(weigh|need|room) ([0-9]+) (\S+)")
 CLIQUE = re.compile(rb"clique (\S+)((?: [0-9]+)*)")
+CASES = re.compile(rb"cases (\S+)")
+CASE = re.compile(rb"case ([0-9]+)")
 CLIQUES, ENOUGH = b"cliques", b"just enough room"
 HEAD = re.compile(rb"weights modulo [0-9]+|too little room|just enough room")
 
 
 class Reason:
     """The weights, needs and rooms of a reason, by names, and its modulus, 0 where it has none; those of room that is just enough before it; and the
-    numbers of the options of cliques, by their names."""
+    numbers of the options of cliques, by their names. Or an item, and a reason for each of its options, by their numbers."""
 
     def __init__(self, text: bytes) -> None:
         lines = text.removeprefix(b"none\n").rstrip(b"\n").split(b"\n")
         self.cliques: dict[bytes, list[int]] = {}
+        self.modulus, self.item = 0, b""
+        self.weights: Amounts = {}
+        self.needs: Amounts = {}
+        self.rooms: Amounts = {}
+        self.full_needs: Amounts = {}
+        self.full_rooms: Amounts = {}
+        self.cases: dict[int, Reason] = {}
+        head = CASES.fullmatch(lines[0])
+        if head:
+            self.item, self.cases = head[1], read_cases(lines[1:])
+        else:
+            self.read(lines)
+
+    def read(self, lines: list[bytes]) -> None:
+        """Takes up the lines of one kind of numbers, and what may stand before them; a ValueError where they are none."""
         if lines[0] == CLIQUES:
             own = list(itertools.takewhile(lambda line: line.startswith(b"clique "), lines[1:]))
             self.cliques = read_cliques(own)
@@ -44,16 +63,15 @@ class Reason:
             raise ValueError("this is no reason: not one kind, with just enough room before it or not")
         last = lines.index(heads[-1])
         self.modulus = int(lines[last].rpartition(b" ")[2]) if lines[last].startswith(b"weights modulo ") else 0
-        self.weights: Amounts = {}
-        self.needs: Amounts = {}
-        self.rooms: Amounts = {}
-        self.full_needs: Amounts = {}
-        self.full_rooms: Amounts = {}
         read_lines(lines[1:last], {b"need": self.full_needs, b"room": self.full_rooms})
         read_lines(lines[last + 1:], {b"weigh": self.weights, b"need": self.needs, b"room": self.rooms})
 
     def holds(self, problem: Problem) -> bool:
         """Whether the reason shows that the problem has no cover."""
+        if self.item:
+            named = [number for number, option in enumerate(problem.options) if self.item in option.names]
+            return (self.item in problem.primary_names() and list(self.cases) == named
+                    and all(case.holds(beside(problem, number)) for number, case in self.cases.items()))
         coloured = {name for option in problem.options for name, colour in zip(option.names, option.colours) if colour is not None}
         if not are_cliques(problem, self.cliques):
             return False
@@ -77,6 +95,8 @@ class Reason:
 
     def words(self, problem: Problem, named: Named = shown) -> list[str]:
         """Lines that say why there is no cover, in which items are named so."""
+        if self.item:
+            return list(case_words(self, problem, named))
         def named_all(name: bytes) -> str:
             return shown(name) if name in self.cliques else named(name)
 
@@ -86,6 +106,8 @@ class Reason:
 
     def line(self, problem: Problem) -> str:
         """The same in one line."""
+        if self.item:
+            return f"with none of the {plural(len(self.cases), 'option')} of {shown(self.item)} there is a cover"
         if not self.modulus:
             return f"{sum(self.needs.values()):,} needed, and room for {sum(self.rooms.values()):,}: there is no cover"
         weights = self.signed()
@@ -117,6 +139,26 @@ def read_cliques(lines: list[bytes]) -> dict[bytes, list[int]]:
     return cliques
 
 
+def read_cases(lines: list[bytes]) -> dict[int, Reason]:
+    """The reasons of cases by the numbers of their options; a ValueError where lines are none of a case, or a number comes twice."""
+    heads = [place for place, line in enumerate(lines) if CASE.fullmatch(line)]
+    numbers = [int(lines[place].split()[1]) for place in heads]
+    if (heads[:1] != [0] and lines) or len(set(numbers)) < len(numbers):
+        raise ValueError("this is no reason: not one for each case")
+    cases = {number: Reason(b"\n".join(lines[head + 1:end])) for number, head, end in zip(numbers, heads, [*heads[1:], len(lines)])}
+    if any(case.item or case.cliques or case.full_rooms for case in cases.values()):
+        raise ValueError("this is no reason: a case has more than one kind")
+    return cases
+
+
+def beside(problem: Problem, number: int) -> Problem:
+    """The problem with an option and those that don't clash with it."""
+    left = copy.copy(problem)
+    chosen = problem.options[number]
+    left.options = [option for option in problem.options if option is chosen or not clash(chosen, option)]
+    return left
+
+
 def clash(one: Option, other: Option) -> bool:
     """Whether two options can't stand together: both name an item, to which they don't give the same colour."""
     colours = dict(zip(other.names, other.colours))
@@ -137,6 +179,23 @@ def added(amounts: Amounts, names: Iterable[bytes]) -> int:
 
 def names_line(names: Iterable[bytes], named: Named) -> str:
     return f"  {listed([named(name) for name in names], SHOWN)}"
+
+
+# ---- cases
+
+def case_words(reason: Reason, problem: Problem, named: Named) -> Iterator[str]:
+    """That no option of the item leaves a cover, and why for the first of them."""
+    called = quoted(reason.item) if named is shown else named(reason.item)
+    if not reason.cases:
+        yield f"no option names {called}" if named is shown else f"nothing is possible for {called}"
+        return
+    number, case = next(iter(reason.cases.items()))
+    many = len(reason.cases)
+    yield f"each cover has one of the {plural(many, 'option')} of {called}, and none of them leaves one:"
+    yield f"  {listed([named(name) for name in problem.options[number].names], SHOWN)}"
+    yield from (f"    {line}" for line in case.words(beside(problem, number), named))
+    if many > 1:
+        yield "  each of the others has such a reason, too"
 
 
 # ---- cliques

@@ -93,8 +93,8 @@ def draw_groups(paper: Paper, cells: dict[bytes, Cell], groups: list[Group]) -> 
 
 
 def reason_svg(problem: Problem, reason: Reason) -> str:
-    """The picture of a reason as SVG."""
-    cells, groups = board_of(problem), groups_of(reason)
+    """The picture of a reason as SVG; of cases that of the first one."""
+    cells, groups = board_of(problem), groups_of(next(iter(reason.cases.values()), reason))
     if not any(name in cells for group in groups for name in group.names):
         cells = {}
     paper = Paper(reason.line(problem))

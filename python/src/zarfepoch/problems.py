@@ -60,6 +60,9 @@ class Reason(NamedTuple):
     brings at least as much room as it needs, and all `needs` together are more than all `rooms`. The rest of the items count as 0. Secondary items
     in `full_rooms` may have weights and needs, too: each cover uses them, since each option brings at least as much of this room as it has
     `full_needs`, and all of these together are as much as all of this room. Beside items there may be a `Clique`.
+
+    Or there are `cases`: for each option of an item, by its place, a reason that holds of it and of the options that don't clash with it. A cover
+    has just one of them.
     """
     modulus: Optional[int]
     weights: dict[Hashable, int]
@@ -67,8 +70,11 @@ class Reason(NamedTuple):
     rooms: dict[Hashable, int]
     full_needs: dict[Hashable, int] = {}
     full_rooms: dict[Hashable, int] = {}
+    cases: dict[int, Reason] = {}
 
     def __str__(self) -> str:
+        if self.cases:
+            return f"none of these {len(self.cases)} options is in a cover, and each cover has one of them"
         if self.modulus:
             return (f"the weights of each option's items add up to a multiple of {self.modulus}, "
                     f"and all weights together are {sum(self.weights.values())}")
@@ -214,9 +220,10 @@ class Problem:
         items: dict[bytes, Hashable] = {b"%d" % number: item for number, item in enumerate((*self.primary, *self.secondary))}
         kept = [place for place, option in enumerate(self) if self._is_kept(option)]
         items.update((name, Clique(tuple(kept[number] for number in numbers))) for name, numbers in found.cliques.items())
-        weights, *rooms = ({items[name]: number for name, number in some.items()}
-                           for some in (found.weights, found.needs, found.rooms, found.full_needs, found.full_rooms))
-        return Reason(found.modulus or None, weights, *rooms)
+        weights, needs, rooms, full_needs, full_rooms = ({items[name]: number for name, number in some.items()} for some in (
+            found.weights, found.needs, found.rooms, found.full_needs, found.full_rooms))
+        cases = {kept[number]: self._named_reason(case) for number, case in found.cases.items()}
+        return Reason(found.modulus or None, weights, needs, rooms, full_needs, full_rooms, cases)
 
     def is_cover(self, places: Iterable[int]) -> bool:
         """Whether the options at these places are an exact cover, by counting; `ProblemError` where there is no option at one."""
