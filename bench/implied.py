@@ -6,7 +6,8 @@
 The kinds: `class`, one class with 30 lessons in 30 periods, which are secondary, and seven teachers; `school`, three such classes with 25; `edges`,
 the edges of a complete graph of 13 points in 12 colours, none of which is twice at a point; `differences`, two blocks of four numbers modulo 25 with
 each difference at most once; `exams`, 30 exams in nine slots, ten of which have a student in common by twos; `crossing`, lessons of four classes and
-teachers each, of which 13 share one by twos, in 12 periods. The first two have a cover, the others none.
+teachers each, of which 13 share one by twos, in 12 periods; `pieces`, square boards of ten to fourteen rows for an X and an I of five squares
+each and dominoes. The first two have a cover, the others none.
 
 N instances are drawn of each kind (default 3). A cell has the processor seconds, reading included, or a dash where there is no answer within so many
 seconds (default 10). The answers are compared, and each cover is counted by `check`. With --write the problems are written, and nothing is run.
@@ -106,9 +107,21 @@ def crossing(path: str, draw: random.Random) -> None:
           [[name, *(f"p{who}-{period}" for who in whose)] for name, whose in lessons for period in range(LINES - 1)])
 
 
+def pieces(path: str, draw: random.Random) -> None:
+    """An X, an I and dominoes on a square board of ten, twelve or fourteen rows, whose options come in an order that is drawn."""
+    side = draw.choice((10, 12, 14))
+    cross, bar = ((0, 1), (1, 0), (1, 1), (1, 2), (2, 1)), tuple((0, place) for place in range(5))
+    shapes = [("X", cross), ("I", bar), ("I", tuple((c, r) for r, c in bar)), ("", bar[:2]), ("", ((0, 0), (1, 0)))]
+    options = [[*filter(None, [piece]), *(f"{row + r}-{column + c}" for r, c in shape)]
+               for piece, shape in shapes for row, column in itertools.product(range(side), repeat=2)
+               if all(row + r < side and column + c < side for r, c in shape)]
+    draw.shuffle(options)
+    write(path, ["X", "I", *(f"{r}-{c}" for r in range(side) for c in range(side))], options)
+
+
 KINDS: dict[str, tuple[Callable[[str, random.Random], None], bool]] = {
     "class": (one_class, True), "school": (school, True), "edges": (edges, False), "differences": (differences, False), "exams": (exams, False),
-    "crossing": (crossing, False)}
+    "crossing": (crossing, False), "pieces": (pieces, False)}
 
 
 def asked(words: list[str], file: str, seconds: int) -> Told:

@@ -109,6 +109,8 @@ def examples(folder: str) -> None:
 
 # the edges of a triangle in two colours: only with the colours' places primary, which each cover would use, weights show that there is none
 JUST_ENOUGH = "ab ac bc | ra rb rc ua ub uc\nab ra rb\nab ua ub\nac ra rc\nac ua uc\nbc rb rc\nbc ub uc\n"
+# two lessons in a room that has one lamp: once the one is chosen, no option is left for the other
+LAMP = "maths art | lamp\nmaths lamp:red\nmaths lamp:blue\nart lamp:green\n"
 # with which words certificates are written, and what `check` expects in place of a line that is cut off
 CERTIFYING = {("learn",): "'d' and a number, or literals and hints", ("alone", "--unlimited"): "the number of an item, or = or * and a number"}
 
@@ -129,12 +131,13 @@ def certificates(folder: str) -> None:
     letters, path = os.path.join(TOP, "examples", "letters.dlx"), os.path.join(folder, "none.certificate")
     expect("no reason", run("why", letters, "--certificate", path) == (b"no reason found\n", b"", 4) and not os.path.exists(path))
     expect("a certificate and fuel", run("alone", letters, "--certificate", path)[2] == 2 and not os.path.exists(path))
-    periods = os.path.join(folder, "just_enough.dlx")
-    with open(periods, "w", encoding="ascii") as opened:
-        opened.write(JUST_ENOUGH)
-    said = run("why", periods, "--certificate", path)
-    expect("no line for just enough room", said[0].startswith(b"none\njust enough room\n") and said[1].startswith(b"no certificate: ") and said[2] == 3)
-    expect("no file for just enough room", not os.path.exists(path))
+    for problem, kind in (JUST_ENOUGH, b"just enough room"), (LAMP, b"cases art"):
+        unsaid = os.path.join(folder, "unsaid.dlx")
+        with open(unsaid, "w", encoding="ascii") as opened:
+            opened.write(problem)
+        said = run("why", unsaid, "--certificate", path)
+        expect(f"no line for {kind!r}", said[0].startswith(b"none\n" + kind + b"\n") and said[1].startswith(b"no certificate: ") and said[2] == 3)
+        expect(f"no file for {kind!r}", not os.path.exists(path))
     expect("the full disk is still there", os.path.exists("/dev/full"))
     kept_certificates(os.path.join(folder, "kept"))
     uncreated_certificates(os.path.join(folder, "uncreated"))

@@ -24,11 +24,18 @@ fn why(alloc: Global, text: &str) -> RunOutput {
 }
 
 /// Each with what is written to both outputs, and the status.
-static REASONS: [(&str, &str, &str, u8); 6] = [
+static REASONS: [(&str, &str, &str, u8); 7] = [
     (LETTERS, "no reason found\n", "", 4),
     (
         NO_COVER,
         "none\ntoo little room\nneed 1 a\nneed 1 b\nneed 1 e\nroom 1 c\nroom 1 d\n",
+        "",
+        1,
+    ),
+    // a room has a lamp of one colour; two cases of a, or one of b
+    (
+        "a b | x\na x:1\na x:2\nb x:3\n",
+        "none\ncases b\ncase 2\ntoo little room\nneed 1 a\n",
         "",
         1,
     ),

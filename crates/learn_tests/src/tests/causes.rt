@@ -11,6 +11,9 @@ use std::test::Fail;
 const TRIANGLE: &str =
     "ab ac bc | ra rb rc sa sb sc\nab ra rb\nab sa sb\nac ra rc\nac sa sc\nbc rb rc\nbc sb sc\n";
 
+/// Two lessons in a room that has one lamp: any two of their options clash by its colour.
+const LAMP: &str = "maths art | lamp\nmaths lamp:red\nmaths lamp:blue\nart lamp:green\n";
+
 /// A watch that ends the search for a reason at its first look, or never.
 #[derive(Drop)]
 struct Ending {
@@ -43,12 +46,14 @@ fn a_cause_is_found_and_written(rt: HostRuntime) -> Result<(), Fail> {
             .as_slice()
             .starts_with(b"just enough room\nneed 2 ab\n")
     );
+    let cases = b"cases art\ncase 2\ntoo little room\nneed 1 maths\n".as_slice();
+    assert!(rt; lines(rt.alloc(), LAMP, false)?.as_slice() == cases);
     Ok(())
 }
 
 #[test]
 fn a_cause_is_not_looked_for_once_the_watch_ends_that(rt: HostRuntime) -> Result<(), Fail> {
-    for text in [NO_COVER, TRIANGLE] {
+    for text in [NO_COVER, TRIANGLE, LAMP] {
         assert!(rt; lines(rt.alloc(), text, true)?.is_empty());
     }
     Ok(())
