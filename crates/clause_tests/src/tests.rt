@@ -3,8 +3,9 @@
 mod refused;
 mod steps;
 
-use crate::tests::steps::{SCRIPTS, Step, problem_of};
+use crate::tests::steps::{SCRIPTS, Step};
 use implied_clauses::ImpliedClauses;
+use known_problems::problem_of;
 use std::alloc::Global;
 use std::process::Abort;
 

@@ -1,10 +1,9 @@
 //! Problems whose answers are known from elsewhere.
 
-mod texts;
 mod walks;
 
-use crate::tests::texts::{board, langford, problem_of};
 use cover_problem::Problem;
+use known_problems::{board, langford, problem_of};
 use learner::{Figures, Found, IncrementalLearner, LearnerWatch, Settings, find_cover};
 use std::alloc::{AllocError, Global};
 use std::test::Fail;

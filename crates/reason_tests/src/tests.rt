@@ -5,18 +5,15 @@
 //!
 //! Of the bugs of `fractional_room` that are kept outside the gate, `small_reasons` finds `a_need_is_taken_for_room`.
 
-mod texts;
-
 use cover_problem::Problem;
 use cover_reasons::{
     Endless, Reason, ReasonWatch, Room, Weights, excludes, find_fractional_room_until, find_reason,
     find_reason_until, find_room, find_weights, is_too_little,
 };
-use dlx_reader::read_problem;
+use known_problems::{board, langford, lessons, problem_of, tetrominoes, triples};
 use std::alloc::{AllocError, Global};
 use std::process::Abort;
 use std::test::Fail;
-use texts::{board, langford, lessons, tetrominoes, triples};
 
 /// Problems by numbers.
 #[derive(Clone, Copy)]
@@ -74,12 +71,6 @@ fn text_of(alloc: Global, family: Family) -> Result<String, AllocError> {
         Family::Triples(size) => triples(alloc, size),
         Family::Lessons(count, length, periods) => lessons(alloc, count, length, periods),
     }
-}
-
-fn problem_of<R: Abort>(rt: &R, alloc: Global, text: &str) -> Problem {
-    read_problem(alloc, text.as_bytes())
-        .expect(rt, "a problem")
-        .problem
 }
 
 fn whole(amounts: &[u16]) -> u64 {

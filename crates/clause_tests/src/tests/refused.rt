@@ -2,9 +2,10 @@
 //!
 //! No memory is refused here: `trials/try_memory.py` does it from outside, and sees by marks where a step begins and ends.
 
-use super::steps::{SCRIPTS, Step, problem_of};
+use super::steps::{SCRIPTS, Step};
 use growth_marks::{begin, end};
 use implied_clauses::{Hint, ImpliedClauses, Literal};
+use known_problems::problem_of;
 use std::alloc::Global;
 use std::process::Abort;
 
