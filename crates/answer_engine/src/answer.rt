@@ -50,7 +50,8 @@ pub(crate) struct Found {
     pub(crate) ran: Option<Won>,
 }
 
-/// An answer of a lane that has one. The only error is out of memory, where none has one.
+/// An answer of a lane that has one; none where the search was stopped before any had. The only error is out of memory, where the search ran out of
+/// it, and no other lane has an answer.
 pub(crate) fn first_of(_problem: &Problem, found: Found) -> Result<Option<Won>, AllocError>
     requires searched { IfOk found.searched (λ won. IfSome won (IsWonOf _problem.now)) }
     requires learned { IfOk found.learned (λ won. IfSome won (IsWonOf _problem.now)) }
@@ -66,8 +67,8 @@ pub(crate) fn first_of(_problem: &Problem, found: Found) -> Result<Option<Won>, 
         (Ok(Some(won)), _, _) => Ok(Some(won)),
         (_, Ok(Some(won)), _) => Ok(Some(won)),
         (_, _, Some(won)) => Ok(Some(won)),
-        (Ok(None), Ok(None), None) => Ok(None),
-        (Err(fault), _, _) | (_, Err(fault), _) => Err(fault),
+        (Ok(None), _, None) => Ok(None),
+        (Err(fault), _, None) => Err(fault),
     }
 }
 
@@ -145,7 +146,11 @@ fn decided<V: EndWatch, R: Threads + Wait + Clock + Sync>(
     ensures right { IfOk result (λ found. IfSome found (IsWonOf problem.now)) }
     ensures decides { task.now.time ≡ None → IfOk result (λ found. found ≢ None) }
 {
-    let found = raced(task, problem, watch)?;
+    let found = match (raced(task, problem, watch), &task.time) {
+        // (what the other lanes had is free again, and may be enough for a search alone)
+        (Err(_), None) => None,
+        (found, _) => found?,
+    };
     settled(task, problem, watch, found)
 }
 
@@ -168,7 +173,7 @@ pub(crate) fn settled<V: EndWatch, R: Threads + Wait + Clock + Sync>(
     }
     match &task.time {
         Some(_) => Ok(None),
-        // (without a limit no lane ends before the other has an answer, but no type says so)
+        // (without a limit no lane ends before another has an answer, unless memory runs out)
         None => Ok(Some(searched_alone(task.alloc, problem)?)),
     }
 }

@@ -63,7 +63,7 @@ fn what_is_left_after_a_choice(rt: HostRuntime) -> Result<(), Fail> {
     Ok(())
 }
 
-/// A problem with so many items, of which the first option names all, and so many more each one.
+/// A problem with so many items, of which the first option names all, and so many more the first item alone.
 fn long_and_short(alloc: Global, items: u16, short: u16) -> Result<String, AllocError> {
     let mut text = String::new(alloc);
     for _line in 0..2 {
@@ -72,8 +72,8 @@ fn long_and_short(alloc: Global, items: u16, short: u16) -> Result<String, Alloc
         }
         text.push_str("\n")?;
     }
-    for option in 0..short {
-        text.push_str(format!(in alloc; "{}\n", option % items)?.as_str())?;
+    for _option in 0..short {
+        text.push_str("0\n")?;
     }
     Ok(text)
 }
