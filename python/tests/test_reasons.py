@@ -3,7 +3,7 @@
 Of 300 random problems with a cover the program has to find no reason, and of as many without one each reason that it finds has
 to hold; whether there is a cover says the plain search of `plain_search.py`. A reason in which one number is changed has to be refused by
 check_reason.py unless it still holds, as this counts for itself. Then come families whose reasons are known: over-full timetables,
-pigeons, boards, Langford pairs, triples; the examples; and odd words for check_reason.py.
+pigeons, boards, Langford pairs, triples; the examples; the reasons on the page BY_HAND; and odd words for check_reason.py.
 """
 from __future__ import annotations
 
@@ -12,6 +12,7 @@ import itertools
 import os
 import pathlib
 import random
+import re
 import subprocess
 import sys
 from collections.abc import Sequence
@@ -222,6 +223,39 @@ def test_example(program: str, path: str) -> None:
     assert (ran.returncode, ran.stdout) == (status, written), f"{name} as a file"
     assert ((status == 1 and is_checked(text, written)) if name in NONE else
             (status, written) == (4, b"no reason found\n")), f"the reason of {name}"
+
+
+# ---- the page of reasons that are added up by hand
+
+def problems_by_hand() -> list[tuple[str, str, bytes]]:
+    """The problems of the page, each with its heading and the reason beside it, from which three blanks part it."""
+    with open(os.path.join(TOP, "docs", "BY_HAND.md"), encoding="utf-8") as page:
+        sections = re.split(r"^### ", page.read(), flags=re.MULTILINE)[1:]
+    found = []
+    for section in sections:
+        block, = (part for part in section.split("\n\n") if re.search(r" {3}none$", part, re.MULTILINE))
+        columns = [line[4:].partition("   ") for line in block.split("\n")]
+        problem = [left for left, _, _ in columns if left]
+        reason = [right.strip() for _, _, right in columns if right]
+        found.append((section.partition("\n")[0], "\n".join(problem) + "\n", "\n".join(reason).encode() + b"\n"))
+    return found
+
+
+BY_HAND = problems_by_hand()
+
+
+@pytest.mark.parametrize("what, problem, reason", BY_HAND, ids=[what for what, _, _ in BY_HAND])
+def test_by_hand(what: str, problem: str, reason: bytes) -> None:
+    """The reason on the page holds, and the program writes it. It has cliques, just enough room, or room for more than 1 of an item."""
+    assert is_checked(problem, reason), f"the reason of {what} doesn't hold"
+    added = Reason(reason)
+    assert added.holds(read_problem(problem.encode())), f"the reason of {what} doesn't hold by its own sums"
+    assert added.cliques or added.full_rooms or max(added.rooms.values()) > 1, f"the reason of {what} is of another kind than the page says"
+    assert why(problem) == (1, reason), f"what the program writes for {what}"
+
+
+def test_ten_by_hand() -> None:
+    assert len(BY_HAND) == 10, "the page says ten"
 
 
 # ---- check_reason.py by its words
