@@ -90,8 +90,8 @@ fn cases_tried<W: ReasonWatch>(
 /// The cases of an item, if a few that are tried have one all of whose options have a case, and the watch doesn't end that before. Then there is no
 /// exact cover.
 ///
-/// Where none is found there may be a cover or none. It takes as long as to look for a reason some five times, and once more for each option of the
-/// item that it finds. The only error is out of memory.
+/// Where none is found there may be a cover or none. A reason is looked for with one option of each item that is tried, and with each option where that
+/// one has a reason. The only error is out of memory.
 pub fn find_cases_until<W: ReasonWatch>(
     alloc: Global,
     problem: &Problem,
