@@ -6,9 +6,16 @@
 use case_reasons::{Cases, after_choice, find_cases_until};
 use cover_problem::Problem;
 use cover_reasons::{Endless, ReasonWatch};
-use known_problems::problem_of;
+use dlx_reader::read_problem;
 use std::alloc::{AllocError, Global};
+use std::process::Abort;
 use std::test::Fail;
+
+fn problem_of<R: Abort>(rt: &R, alloc: Global, text: &str) -> Problem {
+    read_problem(alloc, text.as_bytes())
+        .expect(rt, "a problem")
+        .problem
+}
 
 /// The items of each option by their numbers, each with its colour behind it if it has one, and a stop behind the option.
 fn options_text(alloc: Global, problem: &Problem) -> Result<String, AllocError> {

@@ -3,9 +3,8 @@
 mod refused;
 mod steps;
 
-use crate::tests::steps::{SCRIPTS, Step};
+use crate::tests::steps::{SCRIPTS, Step, problem_of};
 use implied_clauses::ImpliedClauses;
-use known_problems::problem_of;
 use std::alloc::Global;
 use std::process::Abort;
 

@@ -3,10 +3,16 @@
 use clash_cliques::{Clique, find_cliques, find_room_by_cliques, with_cliques};
 use cover_problem::{Name, Numbers, Problem};
 use cover_reasons::{Endless, ReasonWatch, find_reason};
-use known_problems::problem_of;
+use dlx_reader::read_problem;
 use std::alloc::{AllocError, Global};
 use std::process::Abort;
 use std::test::Fail;
+
+fn problem_of<R: Abort>(rt: &R, alloc: Global, text: &str) -> Problem {
+    read_problem(alloc, text.as_bytes())
+        .expect(rt, "a problem")
+        .problem
+}
 
 /// The name of a clique and its options, with a space before each of these.
 fn clique_text(alloc: Global, clique: &Clique) -> Result<String, AllocError> {

@@ -1,8 +1,6 @@
-//! Problems of a known kind, as texts, and the problem of a text, for tests.
+//! Problems of a known kind, as texts, for tests.
 #![tactic(auto)]
 
-mod reading;
 mod texts;
 
-pub use reading::problem_of;
 pub use texts::{board, langford, lessons, tetrominoes, triples};

@@ -3,10 +3,19 @@
 mod walks;
 
 use cover_problem::Problem;
-use known_problems::{board, langford, problem_of};
+use dlx_reader::read_problem;
+use known_problems::{board, langford};
 use learner::{Figures, Found, IncrementalLearner, LearnerWatch, Settings, find_cover};
 use std::alloc::{AllocError, Global};
+use std::process::Abort;
 use std::test::Fail;
+
+/// The problem of a text.
+fn problem_of<R: Abort>(rt: &R, alloc: Global, text: &str) -> Problem {
+    read_problem(alloc, text.as_bytes())
+        .expect(rt, "a problem")
+        .problem
+}
 
 /// A watch that stops a learner after so many conflicts.
 #[derive(Drop)]

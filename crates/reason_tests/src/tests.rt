@@ -10,7 +10,8 @@ use cover_reasons::{
     Endless, Reason, ReasonWatch, Room, Weights, excludes, find_fractional_room_until, find_reason,
     find_reason_until, find_room, find_weights, is_too_little,
 };
-use known_problems::{board, langford, lessons, problem_of, tetrominoes, triples};
+use dlx_reader::read_problem;
+use known_problems::{board, langford, lessons, tetrominoes, triples};
 use std::alloc::{AllocError, Global};
 use std::process::Abort;
 use std::test::Fail;
@@ -71,6 +72,12 @@ fn text_of(alloc: Global, family: Family) -> Result<String, AllocError> {
         Family::Triples(size) => triples(alloc, size),
         Family::Lessons(count, length, periods) => lessons(alloc, count, length, periods),
     }
+}
+
+fn problem_of<R: Abort>(rt: &R, alloc: Global, text: &str) -> Problem {
+    read_problem(alloc, text.as_bytes())
+        .expect(rt, "a problem")
+        .problem
 }
 
 fn whole(amounts: &[u16]) -> u64 {

@@ -2,11 +2,17 @@
 
 use cover_problem::Problem;
 use cover_reasons::{Reason, Room, find_reason};
-use known_problems::problem_of;
+use dlx_reader::read_problem;
 use std::alloc::{AllocError, Global};
 use std::process::Abort;
 use std::test::Fail;
 use used_items::{is_just_enough, with_room, with_used_items};
+
+fn problem_of<R: Abort>(rt: &R, alloc: Global, text: &str) -> Problem {
+    read_problem(alloc, text.as_bytes())
+        .expect(rt, "a problem")
+        .problem
+}
 
 /// Adds the name of an item, or `?` where there is no such item, and a space.
 fn push_name(text: &mut Vec<u8>, problem: &Problem, item: u16) -> Result<(), AllocError> {

@@ -2,10 +2,9 @@
 //!
 //! No memory is refused here: `trials/try_memory.py` does it from outside, and sees by marks where a step begins and ends.
 
-use super::steps::{SCRIPTS, Step};
+use super::steps::{SCRIPTS, Step, problem_of};
 use growth_marks::{begin, end};
 use implied_clauses::{Hint, ImpliedClauses, Literal};
-use known_problems::problem_of;
 use std::alloc::Global;
 use std::process::Abort;
 

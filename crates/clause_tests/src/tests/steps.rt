@@ -1,8 +1,12 @@
 //! The steps, which were worked out by hand.
 
+use cover_problem::Problem;
+use dlx_reader::read_problem;
 use implied_clauses::Hint::{Clash, Clause};
 use implied_clauses::Literal::{Chosen, Left};
 use implied_clauses::{Hint, Literal};
+use std::alloc::Global;
+use std::process::Abort;
 
 /// What is done with the clauses of a problem.
 pub enum Step {
@@ -132,3 +136,10 @@ pub static SCRIPTS: [(&str, &[Step]); 5] = [
         ],
     ),
 ];
+
+/// The problem of a text.
+pub fn problem_of<R: Abort>(rt: &R, alloc: Global, text: &str) -> Problem {
+    read_problem(alloc, text.as_bytes())
+        .expect(rt, "a problem")
+        .problem
+}

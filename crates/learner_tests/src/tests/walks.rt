@@ -1,8 +1,9 @@
 //! Walks to first covers, by questions.
 
+use crate::tests::problem_of;
 use brancher::{Outcome, Searcher};
 use cover_problem::Problem;
-use known_problems::{board, langford, problem_of};
+use known_problems::{board, langford};
 use learner::{Figures, LearnerWatch, Settings};
 use question_walk::{QuestionWalk, WalkEnd};
 use std::alloc::{AllocError, Global};
