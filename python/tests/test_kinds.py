@@ -88,6 +88,10 @@ def test_a_large_board(trial: Solving) -> None:
 # what can't be, each with words that have to be told
 NONE = ((["queens", "3"], "There is no solution."), (["langford", "5"], "each option names an even number of these items"),
         (["board", "3x3", "--pieces", "4*I2 I1"], ""),
+        (["board", "6x5", "--pieces", "X F W I V U"], "No reason was found without a search; --problem FILE.dlx keeps the problem, and "
+         "zarfepoch-why-none FILE.dlx searches for items that can't be covered together."),
+        (["queens", "3", "--count"], "No reason was found without a search; "),
+        (["queens", "3", "--problem", os.devnull, "--seconds", "9"], f"No reason was found without a search; zarfepoch-why-none {os.devnull} searches"),
         (["dominoes", "4x4", "--without", "0,0", "3,3"], "each of these needs one: row 1 column 2"),
         (["sudoku", "12..\n..3.\n....\n...3\n"], "nothing is possible for a 3 in box 1"),
         (["sudoku", SUDOKU.replace("7 .", "7 2", 1)], "nothing is possible for an 8 in box 2"))
@@ -98,7 +102,8 @@ def test_none(trial: Solving, words: list[str], told: str) -> None:
     """What is told where there is no answer, in the puzzle's words."""
     words = in_files(trial, words)
     status, lines, errors = trial.run(*words)
-    assert status == (1 if told else 0) and told in "\n".join(lines), f"{words}: {status} {lines} {errors}"
+    text = "\n".join(lines).replace("python3 -m zarfepoch.why_none", "zarfepoch-why-none")
+    assert status == (1 if told else 0) and told in text, f"{words}: {status} {lines} {errors}"
 
 
 def test_reasons(trial: Solving) -> None:

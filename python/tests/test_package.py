@@ -17,6 +17,7 @@ import sys
 import time
 from collections import Counter
 from collections.abc import Hashable, Iterable, Iterator
+from fractions import Fraction
 from typing import Callable, Optional, TypeVar, Union
 
 from hypothesis import HealthCheck, given, settings, strategies as some
@@ -30,6 +31,7 @@ from zarfepoch import Clique, Colored, Problem, Reason
 from zarfepoch.all_covers import Covers, Question
 from zarfepoch.commands import COMMANDS
 from zarfepoch.cover_files import read_problem
+from zarfepoch.even_room import any_reason, even_room, greatest
 from zarfepoch.problems import Asked
 from zarfepoch.search_parts import Prefix, Tree
 
@@ -156,6 +158,22 @@ def test_golfers(people: int, size: int) -> None:
         wanted = evenings * (size - 1) >= people
         assert (found is not None) == wanted, f"{people} people in groups of {size}, {evenings} evenings: {found}"
         assert not found or sum(found.needs.values()) > sum(found.rooms.values()), "what is needed, and what there is"
+
+
+def test_time_for_a_reason(program: str) -> None:
+    """Counting ends where its time is over, in Python and for the commands."""
+    threes = [[*(f"{evening}.{one}" for one in three), *("".join(two) for two in itertools.combinations(three, 2))]
+              for evening in range(5) for three in itertools.combinations("abcdefghi", 3)]
+    people, pairs = [f"{evening}.{one}" for evening in range(5) for one in "abcdefghi"], ["".join(two) for two in itertools.combinations("abcdefghi", 2)]
+    text = "\n".join(" ".join(line) for line in [[*people, "|", *pairs], *threes]).encode()
+    problem = read_problem(text)
+    # (/bin/false stands for a program that finds none)
+    assert any_reason(program, text, problem) and any_reason("/bin/false", text, problem, 60.0, 60.0), "a reason"
+    for words in ((program, 0.0, 60.0), ("/bin/false", 60.0, 0.0), ("/bin/false", None, 0.0)):
+        assert any_reason(words[0], text, problem, *words[1:]) is None, f"no time: {words}"
+    late = time.monotonic()
+    raised(zarfepoch.TimeIsUp, lambda: even_room(problem, late))
+    raised(zarfepoch.TimeIsUp, lambda: greatest([Fraction(1)], [[Fraction(1)]], [Fraction(1)], late))
 
 
 def plain_covers(primary: int, options: list[Numbered], chosen: list[int], live: list[int]) -> Iterator[frozenset[int]]:
