@@ -11,6 +11,7 @@ import os
 import pathlib
 import random
 import re
+import signal
 import stat
 import subprocess
 import sys
@@ -37,6 +38,7 @@ from zarfepoch.search_parts import Prefix, Tree
 
 README = os.path.join(TOP, "python", "README.md")
 EXAMPLES = os.path.join(TOP, "examples")
+LAUNCHER = os.path.join(TOP, "scripts", "zarfepoch")
 Raised = TypeVar("Raised", bound=BaseException)
 Called = TypeVar("Called")
 # what an audit may find
@@ -70,6 +72,26 @@ def test_commands_of_pip() -> None:
     with open(os.path.join(TOP, "python", "pyproject.toml"), encoding="utf-8") as opened:
         named = dict(re.findall(r'^(zarfepoch[a-z-]*) = "zarfepoch\.commands:(\w+)"$', opened.read(), re.MULTILINE))
     assert named == {name: "zarfepoch" if module == "__main__" else module for name, module in COMMANDS.items()}
+
+
+@pytest.mark.parametrize("name", COMMANDS)
+def test_reader_that_goes_away(name: str) -> None:
+    """A command whose output nobody reads ends quietly, as one does whose output can't be written."""
+    reader, writer = os.pipe()
+    os.close(reader)
+    ended = subprocess.run([sys.executable, LAUNCHER, *name.split("-", 1)[1:], "--help"], stdout=writer, stderr=subprocess.PIPE)
+    os.close(writer)
+    assert (ended.returncode, ended.stderr) == (3, b""), f"{name}: {ended}"
+
+
+@pytest.mark.parametrize("module", ("fractions", "csv"))
+def test_interrupt_while_modules_are_read(tmp_path: pathlib.Path, module: str) -> None:
+    """An interrupt ends a command without a word, whichever of the modules that the package uses are read as yet."""
+    (tmp_path / f"{module}.py").write_text("import os, signal\nos.kill(os.getpid(), signal.SIGINT)\n", encoding="ascii")
+    before = signal.signal(signal.SIGINT, signal.default_int_handler)
+    ended = subprocess.run([sys.executable, LAUNCHER, "--help"], capture_output=True, env={**os.environ, "PYTHONPATH": str(tmp_path)})
+    signal.signal(signal.SIGINT, before)
+    assert (ended.returncode, ended.stdout, ended.stderr) == (-signal.SIGINT, b"", b""), f"{module}: {ended}"
 
 
 def test_examples_of_the_page() -> None:

@@ -16,7 +16,7 @@ needed.) It prints these items with the options that name them, and why, where t
 
 It wants the program: (cd crates/solve_cli && rt run -- --version) builds it. The exit status is 0 where there is no cover and a reason or items
 were found, 1 where there is a cover or the search wasn't finished, 2 for a mistake on the command line or where the program can't be
-run, 3 for a file that can't be read or is refused, or a picture that can't be written.
+run, 3 for a file that can't be read or is refused, or where a picture or the standard output can't be written.
 """
 from __future__ import annotations
 
