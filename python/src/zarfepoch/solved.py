@@ -14,9 +14,10 @@ The kinds are %KINDS%;
 
 Of each kind but timetables it is said whether the answer is the only one; --one leaves that out. Where there is no answer, it says why, if a reason
 is found without a search in what is left of N seconds, and what may be mistyped: the puzzle is tried without each of its digits, sums or signs, for N
-seconds in all (5 where none are told). With --seconds N each search ends after N seconds; without, the first goes on until it is decided, and the one for another
-answer for 10 seconds. --all draws each solution, and --count says how many there are, or how many were found in N seconds. A timetable is looked for
-by many short searches first, since one in which the first choices are wrong seldom ends. --problem FILE keeps the problem that the program gets.
+seconds in all (5 where none are told). With --seconds N each search ends after N seconds; without, the first goes on until it is decided, and the one
+for another answer for 10 seconds. --all draws each solution, and --count says how many there are, or how many were found in N seconds. A timetable is
+looked for by many short searches first, since one in which the first choices are wrong seldom ends. --problem FILE keeps the problem that the program
+gets, and zarfepoch-why-none FILE --svg OUT draws the reason why it has no answer.
 
 With --json FILE an object with "options", and perhaps "primary", all other items where it isn't there, and "secondary" is read, in whose options a list of
 two is an item with its colour; the answer is printed as a list of places, or null. Items and colours are texts or numbers. FILE may be -, the
@@ -190,11 +191,19 @@ def tell_none(program: str, puzzle: Puzzle, problem: Problem, given: Namespace, 
         print("\n".join(told_lines(problem, reason.words(problem, in_words(problem)))))
     if not tell_changes(program, puzzle.changes, given.seconds) and not is_told:
         print(as_called(f"No reason was found without a search; {why_none_of(given)} searches for items that can't be covered together."))
+    tell_unwritten(given, f"; {why_none_of(given)} --svg OUT.svg draws the reason" if is_told else "")
 
 
 def why_none_of(given: Namespace) -> str:
     """The command that says why the problem of a command line has no solution, and how that is kept if it isn't."""
     return f"zarfepoch-why-none {shlex.quote(given.problem)}" if given.problem else "--problem FILE.dlx keeps the problem, and zarfepoch-why-none FILE.dlx"
+
+
+def tell_unwritten(given: Namespace, hint: str = "") -> None:
+    """Says that no picture or plan was written where the command line wants one, and there is no answer."""
+    if any(getattr(given, name, None) for name in ("out", "csv", "grid", "out_dir")):
+        what, answer = ("plan", "timetable") if given.kind == "timetable" else ("picture", "solution")
+        print(as_called(f"No {what} was written, since there is no {answer}{hint}."))
 
 
 def tell_changes(program: str, changes: list[Change], seconds: Optional[float]) -> bool:
@@ -213,7 +222,9 @@ def solved(program: str, puzzle: Puzzle, given: Namespace) -> int:
     began = time.monotonic()
     found = asked(program, puzzle, given)
     if found.status == 1:
-        if not isinstance(puzzle, Timetable):
+        if isinstance(puzzle, Timetable):
+            tell_unwritten(given)
+        else:
             tell_none(program, puzzle, problem, given, began)
         return 1
     answer = read_audited(found.text, problem)
@@ -302,6 +313,7 @@ def solve_kind(given: Namespace, words: list[str]) -> int:
             note_size(found[0])
     except PlainlyNone as why:
         tell_changes(program, why.changes, given.seconds)
+        tell_unwritten(given)
         raise
     statuses = []
     for number, puzzle in enumerate(found, 1):
