@@ -88,10 +88,6 @@ def test_a_large_board(trial: Solving) -> None:
 # what can't be, each with words that have to be told
 NONE = ((["queens", "3"], "There is no solution."), (["langford", "5"], "each option names an even number of these items"),
         (["board", "3x3", "--pieces", "4*I2 I1"], ""),
-        (["board", "6x5", "--pieces", "X F W I V U"], "No reason was found without a search; --problem FILE.dlx keeps the problem, and "
-         "zarfepoch-why-none FILE.dlx searches for items that can't be covered together."),
-        (["queens", "3", "--count"], "No reason was found without a search; "),
-        (["queens", "3", "--problem", os.devnull, "--seconds", "9"], f"No reason was found without a search; zarfepoch-why-none {os.devnull} searches"),
         (["dominoes", "4x4", "--without", "0,0", "3,3"], "each of these needs one: row 1 column 2"),
         (["sudoku", "12..\n..3.\n....\n...3\n"], "nothing is possible for a 3 in box 1"),
         (["sudoku", SUDOKU.replace("7 .", "7 2", 1)], "nothing is possible for an 8 in box 2"))
@@ -102,8 +98,27 @@ def test_none(trial: Solving, words: list[str], told: str) -> None:
     """What is told where there is no answer, in the puzzle's words."""
     words = in_files(trial, words)
     status, lines, errors = trial.run(*words)
-    text = "\n".join(lines).replace("python3 -m zarfepoch.why_none", "zarfepoch-why-none")
-    assert status == (1 if told else 0) and told in text, f"{words}: {status} {lines} {errors}"
+    assert status == (1 if told else 0) and told in "\n".join(lines), f"{words}: {status} {lines} {errors}"
+
+
+# what is told where no reason is found without a search, by the further words of the command
+KEPT = "--problem FILE.dlx keeps the problem, and zarfepoch-why-none FILE.dlx"
+NO_REASON: tuple[tuple[list[str], str, list[str]], ...] = (
+    (["board", "6x5", "--pieces", "X F W I V U"], KEPT, []), (["queens", "3", "--count"], KEPT, []),
+    (["queens", "3", "--problem", os.devnull, "--seconds", "9"], f"zarfepoch-why-none {os.devnull}", []),
+    (["queens", "3", "--out", "FOLDER/none"], KEPT, ["No picture was written, since there is no solution."]))
+
+
+@pytest.mark.parametrize("words, command, further", NO_REASON, ids=[" ".join(words) for words, *_ in NO_REASON])
+def test_no_reason(trial: Solving, words: list[str], command: str, further: list[str]) -> None:
+    """What is told where a program finds no reason, and counting none in its time."""
+    searching = trial.path("searching", "#!/bin/sh\nif [ \"$1\" = why ]; then cat > /dev/null; echo no reason found; exit 4; fi\n"
+                           f"exec {trial.environment['ZARFEPOCH']} \"$@\"\n")
+    os.chmod(searching, 0o755)
+    status, lines, errors = trial.run(*(word.replace("FOLDER", trial.folder) for word in words), program=searching)
+    told = [line.replace("python3 -m zarfepoch.why_none", "zarfepoch-why-none") for line in lines]
+    wanted = f"No reason was found without a search; {command} searches for items that can't be covered together."
+    assert status == 1 and told == ["There is no solution.", wanted, *further], f"{words}: {status} {lines} {errors}"
 
 
 # what has no answer, and what is told of the files that aren't written
@@ -112,7 +127,6 @@ UNWRITTEN = (
      "keeps the problem, and zarfepoch-why-none FILE.dlx --svg OUT.svg draws the reason."),
     (["dominoes", "4x4", "--without", "0,0", "3,3", "--out", "FOLDER/none", "--problem", os.devnull],
      f"No picture was written, since there is no solution; zarfepoch-why-none {os.devnull} --svg OUT.svg draws the reason."),
-    (["queens", "3", "--out", "FOLDER/none"], "No picture was written, since there is no solution."),
     (["sudoku", "11" + "." * 14, "--out", "FOLDER/none"], "No picture was written, since there is no solution."),
     (["timetable", "lesson,teacher,class,rooms,periods\na,ann,5a,,1 2\nb,ann,5b,,1 2\nc,ann,5c,,1 2\n", "--csv", "FOLDER/none"],
      "No plan was written, since there is no timetable."),

@@ -142,7 +142,7 @@ def test_picture_as_it_stands(tmp_path: pathlib.Path, name: str) -> None:
 @pytest.mark.parametrize("first", (0, 1))
 def test_rows_of_queens(first: int) -> None:
     """Rows and columns count from 1, whatever the first is called."""
-    lines = run("-", text=QUEENS.format(first, first + 1, first + 2))[1]
+    lines = run("-", "--search", text=QUEENS.format(first, first + 1, first + 2))[1]
     assert lines[1:] == ["  row 2, in 3 ways", "  column 2, in 3 ways", "  column 3, in 3 ways"], f"{first}: {lines}"
 
 
