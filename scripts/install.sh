@@ -102,8 +102,12 @@ for name in $commands; do
     cat >"$pages/$name" <<END
 #!/usr/bin/env python3
 import os
+import signal
 import sys
 
+if signal.getsignal(signal.SIGINT) is signal.default_int_handler:
+    # (an interrupt ends it without a word while modules are read)
+    signal.signal(signal.SIGINT, signal.SIG_DFL)
 here = os.path.dirname(os.path.realpath(__file__))
 sys.path.insert(0, os.path.join(here, "..", "$share"))
 # (the program beside this command, where no other is on the path)

@@ -650,7 +650,7 @@ def failing_outputs() -> None:
         expect(f"{name} on a full disk", told == (3, f"{name}: the standard output can't be written: No space left on device\n"))
         reader, writer = os.pipe()
         os.close(reader)
-        expect(f"{name} on a closed pipe", help_on(writer, *words) == (1, ""))
+        expect(f"{name} on a closed pipe", help_on(writer, *words) == (3, ""))
         os.close(writer)
     unknown, refused = os.path.join(TOP, "nothing"), os.path.join(TOP, "README.md")
     for given, status in ((["draw", unknown, unknown], 3), (["why-none", refused], 3), (["--json", unknown], 3), (["generate", "queens", "999"], 2)):

@@ -165,6 +165,31 @@ ALIKE = (("timetable", "a,M\u00fcller,5a,r,Mon1\nb,Muller,5b,s,Mon1\n", "line 3:
          ("matching", "a A\nb B\nc C\nd D\ne E\nf F\ng G\nh H\ni I\nj J\nk K\nl L\n", "note: 2 more names differ"))
 
 
+# the names of one column by lines, and what is told of them
+SLIPS = (("teacher", "Novak Novak Novack", "line 4: note: the teacher Novack, in this line alone, and the teacher Novak of line 2 count as two"),
+         ("class", "Oktava Tertia Tertai Tertia", "line 4: note: the class Tertai, in this line alone, and the class Tertia of line 3"),
+         ("rooms", "Chemstry Chemistry Chemistry", "line 2: note: the room Chemstry, in this line alone, and the room Chemistry of line 3"),
+         ("lesson", "French Frensh French", "line 3: note: the lesson Frensh, in this line alone, and the lesson French of line 2"),
+         ("teacher", "Ann_Novak Ann_Novac Ann_Novak", "line 3: note: the teacher Ann_Novac, in this line alone,"),
+         ("teacher", "M\u00fcller M\u00fcller Miller", "line 4: note: the teacher Miller, in this line alone,"),
+         ("teacher", "M\u00fcller M\u00fcller Miller Miller", ""), ("teacher", "Novak Novack", ""), ("teacher", "Novak Novak Nowack", ""),
+         ("rooms", "Room_12 Room_12 Room_13", ""), ("rooms", "Room_1a Room_1a Room_2a", ""), ("rooms", "Wing_A Wing_A Wing_B", ""),
+         ("class", "Group4 Group4 Groups4", ""), ("teacher", "Mark Mark Marks", ""), ("lesson", "Latin_I Latin_I Latin_II", ""),
+         ("teacher", "Schwarzenbach Schwarzenbach " + " ".join(f"Schw{letter}rzenbach" for letter in "bcdefghijklm"),
+          "note: 2 more names, in one line alone, differ from others in one letter"))
+
+
+@pytest.mark.parametrize("column, names, wanted", SLIPS, ids=[names for _, names, _ in SLIPS])
+def test_slips(trial: Generating, column: str, names: str, wanted: str) -> None:
+    """Of a name that stands in one line alone, and differs in one letter from one that stands in more, it is told; the file is made all the same."""
+    rows = [{"lesson": f"l{k}", "teacher": f"t{k}", "class": f"c{k}", "rooms": f"r{k}", "periods": "Mon1-6", column: name}
+            for k, name in enumerate(names.split())]
+    table = trial.path("slips.csv", "\n".join([HEAD, *(",".join(row.values()) for row in rows)]) + "\n")
+    ended = trial.python("generate", "timetable", table)
+    told = ended.stderr
+    assert ended.returncode == 0 and (wanted in told if wanted else not told) and told.count("\n") <= 11, f"{names}: {told}"
+
+
 @pytest.mark.parametrize("kind, text, wanted", ALIKE, ids=[repr(text) for _, text, _ in ALIKE])
 def test_names_alike(trial: Generating, kind: str, text: str, wanted: str) -> None:
     """Of names that differ in capitals, blanks or accents alone it is told, with both lines; the file is made all the same."""

@@ -101,6 +101,49 @@ def test_none(trial: Solving, words: list[str], told: str) -> None:
     assert status == (1 if told else 0) and told in "\n".join(lines), f"{words}: {status} {lines} {errors}"
 
 
+# what is told where no reason is found without a search, by the further words of the command
+KEPT = "--problem FILE.dlx keeps the problem, and zarfepoch-why-none FILE.dlx"
+NO_REASON: tuple[tuple[list[str], str, list[str]], ...] = (
+    (["board", "6x5", "--pieces", "X F W I V U"], KEPT, []), (["queens", "3", "--count"], KEPT, []),
+    (["queens", "3", "--problem", os.devnull, "--seconds", "9"], f"zarfepoch-why-none {os.devnull}", []),
+    (["queens", "3", "--out", "FOLDER/none"], KEPT, ["No picture was written, since there is no solution."]))
+
+
+@pytest.mark.parametrize("words, command, further", NO_REASON, ids=[" ".join(words) for words, *_ in NO_REASON])
+def test_no_reason(trial: Solving, words: list[str], command: str, further: list[str]) -> None:
+    """What is told where a program finds no reason, and counting none in its time."""
+    searching = trial.path("searching", "#!/bin/sh\nif [ \"$1\" = why ]; then cat > /dev/null; echo no reason found; exit 4; fi\n"
+                           f"exec {trial.environment['ZARFEPOCH']} \"$@\"\n")
+    os.chmod(searching, 0o755)
+    status, lines, errors = trial.run(*(word.replace("FOLDER", trial.folder) for word in words), program=searching)
+    told = [line.replace("python3 -m zarfepoch.why_none", "zarfepoch-why-none") for line in lines]
+    wanted = f"No reason was found without a search; {command} searches for items that can't be covered together."
+    assert status == 1 and told == ["There is no solution.", wanted, *further], f"{words}: {status} {lines} {errors}"
+
+
+# what has no answer, and what is told of the files that aren't written
+UNWRITTEN = (
+    (["dominoes", "4x4", "--without", "0,0", "3,3", "--out", "FOLDER/none"], "No picture was written, since there is no solution; --problem FILE.dlx "
+     "keeps the problem, and zarfepoch-why-none FILE.dlx --svg OUT.svg draws the reason."),
+    (["dominoes", "4x4", "--without", "0,0", "3,3", "--out", "FOLDER/none", "--problem", os.devnull],
+     f"No picture was written, since there is no solution; zarfepoch-why-none {os.devnull} --svg OUT.svg draws the reason."),
+    (["sudoku", "11" + "." * 14, "--out", "FOLDER/none"], "No picture was written, since there is no solution."),
+    (["timetable", "lesson,teacher,class,rooms,periods\na,ann,5a,,1 2\nb,ann,5b,,1 2\nc,ann,5c,,1 2\n", "--csv", "FOLDER/none"],
+     "No plan was written, since there is no timetable."),
+    (["timetable", "lesson,teacher,class,periods,times,length,a_day\nmaths,ann,5a,Mon-Tue1-2,2,,1\nart,bob,5a,Mon-Tue1-2,1,2,\nmusic,cy,5b,Mon1,1,,\n",
+      "--out-dir", "FOLDER/none", "--seconds", "60"], "No plan was written, since there is no timetable."),
+    (["dominoes", "4x4", "--without", "0,0", "3,3"], ""))
+
+
+@pytest.mark.parametrize("words, told", UNWRITTEN, ids=[f"{words[0]} {place}" for place, (words, _) in enumerate(UNWRITTEN)])
+def test_unwritten(trial: Solving, words: list[str], told: str) -> None:
+    """Where there is no answer it is said in the last line that no picture or plan was written."""
+    status, lines, errors = trial.run(*in_files(trial, [word.replace("FOLDER", trial.folder) for word in words]))
+    last = lines[-1].replace("python3 -m zarfepoch.why_none", "zarfepoch-why-none") if lines else ""
+    assert status == 1 and (last == told if told else "written" not in last), f"{words}: {status} {lines} {errors}"
+    assert not os.path.exists(trial.path("none")), f"{words}: nothing is written"
+
+
 def test_reasons(trial: Solving) -> None:
     """What is told of cubes and of a timetable."""
     cubes = trial.path("cubes.txt", "one r r r r r r\ntwo r r r r r b\n")

@@ -11,12 +11,14 @@ import os
 import pathlib
 import random
 import re
+import signal
 import stat
 import subprocess
 import sys
 import time
 from collections import Counter
 from collections.abc import Hashable, Iterable, Iterator
+from fractions import Fraction
 from typing import Callable, Optional, TypeVar, Union
 
 from hypothesis import HealthCheck, given, settings, strategies as some
@@ -30,11 +32,13 @@ from zarfepoch import Clique, Colored, Problem, Reason
 from zarfepoch.all_covers import Covers, Question
 from zarfepoch.commands import COMMANDS
 from zarfepoch.cover_files import read_problem
+from zarfepoch.even_room import any_reason, even_room, greatest
 from zarfepoch.problems import Asked
 from zarfepoch.search_parts import Prefix, Tree
 
 README = os.path.join(TOP, "python", "README.md")
 EXAMPLES = os.path.join(TOP, "examples")
+LAUNCHER = os.path.join(TOP, "scripts", "zarfepoch")
 Raised = TypeVar("Raised", bound=BaseException)
 Called = TypeVar("Called")
 # what an audit may find
@@ -68,6 +72,26 @@ def test_commands_of_pip() -> None:
     with open(os.path.join(TOP, "python", "pyproject.toml"), encoding="utf-8") as opened:
         named = dict(re.findall(r'^(zarfepoch[a-z-]*) = "zarfepoch\.commands:(\w+)"$', opened.read(), re.MULTILINE))
     assert named == {name: "zarfepoch" if module == "__main__" else module for name, module in COMMANDS.items()}
+
+
+@pytest.mark.parametrize("name", COMMANDS)
+def test_reader_that_goes_away(name: str) -> None:
+    """A command whose output nobody reads ends quietly, as one does whose output can't be written."""
+    reader, writer = os.pipe()
+    os.close(reader)
+    ended = subprocess.run([sys.executable, LAUNCHER, *name.split("-", 1)[1:], "--help"], stdout=writer, stderr=subprocess.PIPE)
+    os.close(writer)
+    assert (ended.returncode, ended.stderr) == (3, b""), f"{name}: {ended}"
+
+
+@pytest.mark.parametrize("module", ("fractions", "csv"))
+def test_interrupt_while_modules_are_read(tmp_path: pathlib.Path, module: str) -> None:
+    """An interrupt ends a command without a word, whichever of the modules that the package uses are read as yet."""
+    (tmp_path / f"{module}.py").write_text("import os, signal\nos.kill(os.getpid(), signal.SIGINT)\n", encoding="ascii")
+    before = signal.signal(signal.SIGINT, signal.default_int_handler)
+    ended = subprocess.run([sys.executable, LAUNCHER, "--help"], capture_output=True, env={**os.environ, "PYTHONPATH": str(tmp_path)})
+    signal.signal(signal.SIGINT, before)
+    assert (ended.returncode, ended.stdout, ended.stderr) == (-signal.SIGINT, b"", b""), f"{module}: {ended}"
 
 
 def test_examples_of_the_page() -> None:
@@ -156,6 +180,22 @@ def test_golfers(people: int, size: int) -> None:
         wanted = evenings * (size - 1) >= people
         assert (found is not None) == wanted, f"{people} people in groups of {size}, {evenings} evenings: {found}"
         assert not found or sum(found.needs.values()) > sum(found.rooms.values()), "what is needed, and what there is"
+
+
+def test_time_for_a_reason(program: str) -> None:
+    """Counting ends where its time is over, in Python and for the commands."""
+    threes = [[*(f"{evening}.{one}" for one in three), *("".join(two) for two in itertools.combinations(three, 2))]
+              for evening in range(5) for three in itertools.combinations("abcdefghi", 3)]
+    people, pairs = [f"{evening}.{one}" for evening in range(5) for one in "abcdefghi"], ["".join(two) for two in itertools.combinations("abcdefghi", 2)]
+    text = "\n".join(" ".join(line) for line in [[*people, "|", *pairs], *threes]).encode()
+    problem = read_problem(text)
+    # (/bin/false stands for a program that finds none)
+    assert any_reason(program, text, problem) and any_reason("/bin/false", text, problem, 60.0, 60.0), "a reason"
+    for words in ((program, 0.0, 60.0), ("/bin/false", 60.0, 0.0), ("/bin/false", None, 0.0)):
+        assert any_reason(words[0], text, problem, *words[1:]) is None, f"no time: {words}"
+    late = time.monotonic()
+    raised(zarfepoch.TimeIsUp, lambda: even_room(problem, late))
+    raised(zarfepoch.TimeIsUp, lambda: greatest([Fraction(1)], [[Fraction(1)]], [Fraction(1)], late))
 
 
 def plain_covers(primary: int, options: list[Numbered], chosen: list[int], live: list[int]) -> Iterator[frozenset[int]]:

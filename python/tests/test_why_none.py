@@ -25,6 +25,9 @@ from try_search import random_text
 
 LETTERS = os.path.join(TOP, "examples", "letters.dlx")
 PATH = 201
+# three queens, whose rows and columns count from some number
+QUEENS = "r{0} r{1} r{2} c{0} c{1} c{2} | a0 a1 a2 a3 a4 b0 b1 b2 b3 b4\n" + "".join(
+    f"r{{{r}}} c{{{c}}} a{r + c} b{r - c + 2}\n" for r in range(3) for c in range(3))
 # what plain_search.py reads
 Problem = tuple[list[bytes], int, list[Numbered], int]
 
@@ -84,6 +87,8 @@ def test_path() -> None:
     assert status == 0 and len(lines) == 1 + PATH and lines[0].startswith(f"{PATH} primary items of {PATH} "), "a path"
 
 
+# how the cells of a board of three by three are told
+CELLS = [f"row {r} column {c}" for r in (1, 2, 3) for c in (1, 2, 3)]
 # problems whose reason is known, what is said of them, and texts of their pictures
 REASONS = [
     ("a b\na\n", ["no option names 'b'"], ["b", "1 needs 1"]),
@@ -97,9 +102,12 @@ REASONS = [
      ["3 weigh +1 each", "each option weighs a multiple of 2, all items together 3: there is no cover"]),
     ("a b c d\na b c\na b d\na c d\nb c d\n", ["each option names a multiple of 3 of these items, and there are 4:", "  a, b, c and d"],
      ["4 weigh +1 each"]),
-    ("00 01 02 10 11 12 20 21 22\n" + "".join(f"{r}{c} {r}{c + 1}\n{c}{r} {c + 1}{r}\n" for r in range(3) for c in range(2)),
-     ["too little room: 5 places needed, and there are 4", "  each of these needs one: row 1 column 1, row 1 column 3, row 2 column 2, row 3 column 1 and row 3 column 3",
-      "  each of these has room for one: row 1 column 2, row 2 column 1, row 2 column 3 and row 3 column 2"], ["5 need 1 each", "4 have room for 1 each"]),
+    *((f"{note}{' '.join(f'{r}{c}' for r in range(first, first + 3) for c in range(first, first + 3))}\n" + "".join(
+        f"{r}{c} {r}{c + 1}\n{c}{r} {c + 1}{r}\n" for r in range(first, first + 3) for c in range(first, first + 2)),
+       ["too little room: 5 places needed, and there are 4", f"  each of these needs one: {told[0]}, {told[2]}, {told[4]}, {told[6]} and {told[8]}",
+        f"  each of these has room for one: {told[1]}, {told[3]}, {told[5]} and {told[7]}"], ["5 need 1 each", "4 have room for 1 each"])
+      for note, first, told in (("", 0, CELLS), ("", 1, CELLS), ("| (zarfepoch generate dominoes)\n", 0, CELLS),
+                                ("| (zarfepoch generate dominoes 4x4)\n", 1, [f"row {r} column {c}" for r in (2, 3, 4) for c in (2, 3, 4)]))),
 ]
 
 
@@ -129,6 +137,13 @@ def test_picture_as_it_stands(tmp_path: pathlib.Path, name: str) -> None:
     picture = str(tmp_path / "picture.svg")
     run(os.path.join(TOP, "examples", name.replace(".svg", ".dlx")), "--svg", picture)
     assert content(picture) == content(os.path.join(TOP, "examples", "reasons", name)), f"the picture {name} as it stands"
+
+
+@pytest.mark.parametrize("first", (0, 1))
+def test_rows_of_queens(first: int) -> None:
+    """Rows and columns count from 1, whatever the first is called."""
+    lines = run("-", "--search", text=QUEENS.format(first, first + 1, first + 2))[1]
+    assert lines[1:] == ["  row 2, in 3 ways", "  column 2, in 3 ways", "  column 3, in 3 ways"], f"{first}: {lines}"
 
 
 def test_picture_that_cannot_be_written(tmp_path: pathlib.Path) -> None:

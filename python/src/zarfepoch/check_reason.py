@@ -9,8 +9,8 @@ has room once, so a reason behind it counts these as primary. Of a clique, optio
 all of them name may have room, too. And of the options of a primary item the cover has just one, so where each of them has a reason that holds of the
 options that are left beside it, there is none.
 
-The exit status is 0 where the reason holds, 1 where it doesn't, 2 for a mistake on the command line, 3 for a file that can't be read, or a FILE
-that the program refuses.
+The exit status is 0 where the reason holds, 1 where it doesn't, 2 for a mistake on the command line, 3 for a file that can't be read, a FILE
+that the program refuses, or where the standard output can't be written.
 """
 from __future__ import annotations
 

@@ -35,9 +35,12 @@ def status_of(main: Callable[[], Status]) -> Status:
 def run(main: Callable[[], Status]) -> NoReturn:
     """Runs a script's main function to its exit status.
 
-    A reader that goes away, as `head` does, ends it quietly, with status 1. Where the standard output is closed or takes no more, or
-    memory runs out, standard error has a line, and the status is 3. A signal that ends it also ends the program that it runs.
+    A reader that goes away, as `head` does, ends it quietly, with status 3. Where the standard output is closed or takes no more, or
+    memory runs out, standard error has a line, too. A signal that ends it also ends the program that it runs; an interrupt is told nowhere.
     """
+    if signal.getsignal(signal.SIGINT) is signal.SIG_DFL:
+        # (what starts a command leaves interrupts to the system until its modules are read)
+        signal.signal(signal.SIGINT, signal.default_int_handler)
     signal.signal(signal.SIGTERM, lambda number, frame: sys.exit(128 + number))
     if sys.stdout is None:
         complain("the standard output can't be written: it is closed")
@@ -56,7 +59,7 @@ def run(main: Callable[[], Status]) -> NoReturn:
     except OSError as why:
         # what is still buffered goes nowhere, so that the interpreter's own end doesn't fail once more
         os.dup2(os.open(os.devnull, os.O_WRONLY), sys.stdout.fileno())
-        status = 1 if isinstance(why, BrokenPipeError) else 3
-        if status == 3:
+        status = 3
+        if not isinstance(why, BrokenPipeError):
             complain(f"the standard output can't be written: {why.strerror}")
     sys.exit(status)

@@ -8,13 +8,17 @@ import importlib
 from collections.abc import Callable
 from typing import NoReturn
 
-from .command_ends import run
+from .command_ends import run, Status
 
 
 def command_of(module: str) -> Callable[[], NoReturn]:
     """What runs the main function of a module of the package to its exit status. The module is read only then."""
+    def main() -> Status:
+        found: Status = importlib.import_module(f"{__package__}.{module}").main()
+        return found
+
     def command() -> NoReturn:
-        run(importlib.import_module(f"{__package__}.{module}").main)
+        run(main)
     return command
 
 

@@ -17,6 +17,7 @@ from math import gcd
 from typing import Optional
 
 from .cover_files import Option, Problem, shown
+from .errors import TimeIsUp
 from .fault_words import listed, plural, quoted
 
 # numbers by the names of their items; what items are called
@@ -270,7 +271,11 @@ def one_group(modulus: int, named: Named, group: tuple[int, list[bytes]]) -> Ite
 
 # ---- from the program
 
-def found_reason(program: str, text: bytes) -> Optional[Reason]:
-    """The reason that the program gives for the bytes of a problem file, or None where it finds none; an OSError where it can't be run."""
-    ran = subprocess.run([program, "why", "-"], input=text, capture_output=True)
+def found_reason(program: str, text: bytes, seconds: Optional[float] = None) -> Optional[Reason]:
+    """The reason that the program gives for the bytes of a problem file, or None where it finds none; an OSError where it can't be run, and `TimeIsUp`
+    where it takes more than so many seconds, if they are told."""
+    try:
+        ran = subprocess.run([program, "why", "-"], input=text, capture_output=True, timeout=None if seconds is None else max(0.0, seconds))
+    except subprocess.TimeoutExpired:
+        raise TimeIsUp("the time was over before a reason was found") from None
     return Reason(ran.stdout) if ran.returncode == 1 and ran.stdout.startswith(b"none\n") else None

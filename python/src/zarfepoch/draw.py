@@ -24,7 +24,8 @@ periods, who takes part in a lesson without an item (`| also maths: hall`), the 
 and titles, and the names that numbers mean (`| name 7: Mathematics for beginners`). Where a comment contradicts the items it is passed over.
 
 The picture shows what the answer says; whether that is right is for the program to say (solve_cli check FILE ANSWER). The
-exit status is 0, 2 for a mistake on the command line, 3 for a file or an answer that can't be read, or a picture that can't be written.
+exit status is 0, 2 for a mistake on the command line, 3 for a file or an answer that can't be read, or where a picture or the standard output can't
+be written.
 """
 from __future__ import annotations
 

@@ -11,7 +11,7 @@ and none in others, colours that no two options give. For an answer it lists the
 item that is covered twice the options that do it, with the colours that they give it.
 
 It explains and decides nothing: whether an answer is right, and above all `none`, only the program can say. The exit status is 0 if
-nothing is wrong, 1 if something is, 2 for a mistake on the command line, 3 for a file that can't be read.
+nothing is wrong, 1 if something is, 2 for a mistake on the command line, 3 for a file that can't be read or where the standard output can't be written.
 """
 from __future__ import annotations
 

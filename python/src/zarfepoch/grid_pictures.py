@@ -25,6 +25,11 @@ class Kakuro(Kind):
         return [option for option in self.options if cell_of(option[0]) and option[1:] and
                 all(re.fullmatch(r"[ad]\d+\.[1-9]", name) for name in option[1:])]
 
+    @property
+    def added(self) -> int:
+        # (a clue may stand in the row and the column 0, where no cell is white)
+        return 1
+
     @staticmethod
     def is_run(option: Names) -> bool:
         return all(re.fullmatch(rf"{option[0]}\.[1-9]", name) for name in option[1:])
@@ -103,10 +108,10 @@ class Kakuro(Kind):
         self.caption(paper)
 
 
-def line_words(item: str) -> str | None:
-    """A row, a column or a region as people count, from 1; None for other names."""
+def line_words(item: str, added: int = 1) -> str | None:
+    """A row, a column or a region as people count, from 1, with so much added to its number; None for other names."""
     found = re.fullmatch(r"(row|column|region)(\d+)", item)
-    return f"{found[1]} {int(found[2]) + 1}" if found else None
+    return f"{found[1]} {int(found[2]) + added}" if found else None
 
 
 STAR = [(0, -1), (0.24, -0.32), (0.95, -0.31), (0.38, 0.12), (0.59, 0.81), (0, 0.4), (-0.59, 0.81), (-0.38, 0.12), (-0.95, -0.31), (-0.24, -0.32)]
@@ -123,7 +128,7 @@ class Stars(Kind):
             max(known_cell(name)) for colours in self.option_colours for name in colours) < LARGEST
 
     def item_words(self, item: str) -> str:
-        return line_words(item) or super().item_words(item.lstrip("s"))
+        return line_words(item, self.added) or super().item_words(item.lstrip("s"))
 
     def regions(self) -> dict[Cell, str]:
         """The region of each cell, by its options."""
@@ -161,7 +166,7 @@ class Nonogram(Kind):
             colour in ("black", "white") for colours in self.option_colours for colour in colours.values())
 
     def item_words(self, item: str) -> str:
-        return line_words(item) or super().item_words(item)
+        return line_words(item, self.added) or super().item_words(item)
 
     def cells(self) -> set[Cell]:
         return {known_cell(item) for item in self.secondary()}
@@ -216,7 +221,7 @@ class Words(Kind):
     def item_words(self, item: str) -> str:
         found = re.fullmatch(r"(across|down)(\d+)", item)
         if found and not self.numbers():
-            return f"the word in {'row' if found[1] == 'across' else 'column'} {int(found[2]) + 1}"
+            return f"the word in {'row' if found[1] == 'across' else 'column'} {int(found[2]) + self.added}"
         return f"{found[2]} {found[1]}" if found else super().item_words(item)
 
     def cells(self) -> set[Cell]:

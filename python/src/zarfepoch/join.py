@@ -15,7 +15,7 @@ all parts have one, OUT gets the certificate of the whole that they make togethe
 all by clauses. (docs/FORMAT.md describes them.) Where the whole isn't `none`, OUT is left as it was.
 
 It wants no built program. The exit status is 0 for a cover, 1 for `none`, 4 for `no answer`, 2 for a mistake on the command line, and 3 where,
-without a cover, something was changed, is missing or wrong.
+without a cover, something was changed, is missing or wrong, or where the standard output can't be written.
 """
 from __future__ import annotations
 

@@ -1,6 +1,7 @@
 """Names in texts: how the words of a line are parted, in each kind alike, and which spellings of a name are one."""
 from __future__ import annotations
 
+import os
 import re
 import unicodedata
 from collections.abc import Callable, Iterable
@@ -14,6 +15,8 @@ PLAIN = str.maketrans("\u00f8\u0142\u0111\u0131", "oldi")
 DOTTED = str.maketrans({"\u00e4": "ae", "\u00f6": "oe", "\u00fc": "ue"})
 # of so many pairs of names that may be one it is told
 MOST_TOLD = 10
+# so many letters a name has that may be a slip for another, and the word in which both differ
+LETTERS, WORD_LETTERS = 5, 3
 # a name in quotation marks, or a run of what parts none
 WORD = re.compile(r'"([^"]*)"(?=[\s,;]|$)|([^\s,;]+)')
 
@@ -84,3 +87,34 @@ def hint_alike(path: str, what: str, names: Iterable[tuple[int, str]]) -> None:
                  f"{first[before]} count as two; if they are one, write the name in one way")
     if len(pairs) > MOST_TOLD:
         complain(f"{called(path)}: note: {len(pairs) - MOST_TOLD} more names differ from others in capitals, blanks or accents alone")
+
+
+def is_one_letter(one: str, other: str) -> bool:
+    """Whether a letter that is inserted, left out or changed, or two neighbours that are swapped, make one word of the other."""
+    begin = len(os.path.commonprefix([one, other]))
+    end = len(os.path.commonprefix([one[begin:][::-1], other[begin:][::-1]]))
+    mine, its = one[begin:len(one) - end], other[begin:len(other) - end]
+    return (mine + its).isalpha() and (max(len(mine), len(its)) == 1 or len(mine) == 2 and mine == its[::-1])
+
+
+def is_slip(name: str, other: str) -> bool:
+    """Whether two names differ in one letter of a word, so that one may be a slip for the other; not where they end in digits, or count as alike."""
+    if any(re.search(r"\d\W*$", one) or sum(map(str.isalpha, one)) < LETTERS for one in (name, other)) or loose(name) & loose(other):
+        return False
+    words, others = (re.split(r"[\s._-]+", as_seen(one).casefold()) for one in (name, other))
+    differing = [pair for pair in zip(words, others) if pair[0] != pair[1]]
+    return len(words) == len(others) and len(differing) == 1 and min(map(len, differing[0])) >= WORD_LETTERS and is_one_letter(*differing[0])
+
+
+def hint_slips(path: str, what: str, names: Iterable[tuple[int, str]]) -> None:
+    """Tells of names that stand in one line alone and differ in one letter from a name that stands in more; each comes with its line."""
+    lines: dict[str, list[int]] = {}
+    for number, name in dict.fromkeys(names):
+        lines.setdefault(name, []).append(number)
+    usual = [name for name, own in lines.items() if len(own) > 1]
+    pairs = [(name, other) for name, own in lines.items() if len(own) == 1 for other in usual if is_slip(name, other)]
+    for name, other in pairs[:MOST_TOLD]:
+        complain(f"{called(path)}, line {lines[name][0]}: note: the {what} {shown(name.encode())}, in this line alone, and the {what} "
+                 f"{shown(other.encode())} of line {lines[other][0]} count as two; if they are one, write the name in one way")
+    if len(pairs) > MOST_TOLD:
+        complain(f"{called(path)}: note: {len(pairs) - MOST_TOLD} more names, in one line alone, differ from others in one letter")

@@ -15,6 +15,8 @@ Cell = tuple[int, int]
 
 CELL, LARGEST = 40, 1_000
 NONE = "none: the answer is that there is no cover"
+# what the comment has that tells how a problem was made
+MADE = "zarfepoch generate "
 KNOWN_COLOURS = {"red": "#f0a39a", "green": "#b3d9b1", "blue": "#a5c4ee", "yellow": "#f5e08c", "orange": "#f7c08a", "purple": "#cdb3e6",
                  "white": "#ffffff", "grey": "#cccccc", "gray": "#cccccc", "brown": "#cfae8e", "pink": "#f3bfd3"}
 # the same in other languages, each a list of words for one of these
@@ -77,10 +79,15 @@ class Kind:
     def secondary(self) -> list[str]:
         return [item for item in self.items if item not in self.primary]
 
+    @functools.cached_property
+    def added(self) -> int:
+        """What is added to rows and columns so that they count from 1: nothing where no cell has a 0, unless the package has made the problem."""
+        return int(any(MADE in comment for comment in self.comments) or any(0 in cell for cell in map(cell_of, self.items) if cell))
+
     def item_words(self, item: str) -> str:
         """What an item is in the words of the kind; its name where nothing better is known."""
         cell = cell_of(item)
-        return cell_words(cell) if cell else item
+        return cell_words(cell, self.added) if cell else item
 
     def lines(self) -> list[str]:
         """The answer as lines of text."""
@@ -110,9 +117,9 @@ def cell_of(name: str) -> Cell | None:
     return (int(found[1]), int(found[2])) if found else None
 
 
-def cell_words(cell: Cell) -> str:
-    """A cell as people count, from 1."""
-    return f"row {cell[0] + 1} column {cell[1] + 1}"
+def cell_words(cell: Cell, added: int = 1) -> str:
+    """A cell as people count, from 1; so much is added to its numbers."""
+    return f"row {cell[0] + added} column {cell[1] + added}"
 
 
 def known_cell(name: str) -> Cell:

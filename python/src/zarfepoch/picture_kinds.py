@@ -1,6 +1,7 @@
 """The kinds of pictures: each is known by the names of a problem's items, and draws an answer as text and on a sheet."""
 from __future__ import annotations
 
+import functools
 import itertools
 import math
 import re
@@ -31,8 +32,12 @@ class Queens(Kind):
         return self.all_match(r"[rcab]\d+") and bool(self.options) and all(
             {"r", "c"} <= {name[0] for name in option} for option in self.options)
 
+    @functools.cached_property
+    def added(self) -> int:
+        return int(any(item[0] in "rc" and int(item[1:]) == 0 for item in self.items))
+
     def item_words(self, item: str) -> str:
-        return {"r": "row", "c": "column"}.get(item[0], "diagonal") + f" {int(item[1:]) + 1}"
+        return {"r": "row", "c": "column"}.get(item[0], "diagonal") + f" {int(item[1:]) + self.added}"
 
     def places(self) -> tuple[list[int], list[int], set[Cell]]:
         """The rows, the columns, and where queens stand."""

@@ -5,6 +5,7 @@ import contextlib
 import math
 import os
 import subprocess
+import time
 from collections.abc import Hashable, Iterable, Iterator, Mapping
 from typing import cast, NamedTuple, Optional, Union
 
@@ -203,10 +204,12 @@ class Problem:
 
     def reason(self, seconds: Optional[float] = None) -> Optional[Reason]:
         """Why there is no cover, if the program finds a reason without a search, or counting items that are alike does. None says nothing."""
+        limit = checked_seconds(seconds)
+        until = None if limit is None else time.monotonic() + limit
         status, answer, why = self._ask(["why", "-"], self._numbered_lines(), seconds)
         problem = cover_files.read_problem(self._numbered_text(self._numbered_lines()))
         if (status, answer) == (4, ["no reason found"]):
-            found = even_room(problem)
+            found = even_room(problem, until)
             return self._named_reason(found) if found else None
         if status != 1:
             raise failure(status, why)

@@ -12,11 +12,12 @@ The kinds are %KINDS%;
                                                     plans a school, and writes the plan as a table too; --plan NAME .. draws the plans of these alone,
                                                     --grid WEEK.csv writes them as people read them, and --out-dir FOLDER each into files of its own
 
-Of each kind but timetables it is said whether the answer is the only one; --one leaves that out. Where there is no answer, it says why, if the
-program finds a reason without a search, and what may be mistyped: the puzzle is tried without each of its digits, sums or signs, for N seconds in all
-(5 where none are told). With --seconds N each search ends after N seconds; without, the first goes on until it is decided, and the one for another
-answer for 10 seconds. --all draws each solution, and --count says how many there are, or how many were found in N seconds. A timetable is looked for
-by many short searches first, since one in which the first choices are wrong seldom ends. --problem FILE keeps the problem that the program gets.
+Of each kind but timetables it is said whether the answer is the only one; --one leaves that out. Where there is no answer, it says why, if a reason
+is found without a search in what is left of N seconds, and what may be mistyped: the puzzle is tried without each of its digits, sums or signs, for N
+seconds in all (5 where none are told). With --seconds N each search ends after N seconds; without, the first goes on until it is decided, and the one
+for another answer for 10 seconds. --all draws each solution, and --count says how many there are, or how many were found in N seconds. A timetable is
+looked for by many short searches first, since one in which the first choices are wrong seldom ends. --problem FILE keeps the problem that the program
+gets, and zarfepoch-why-none FILE --svg OUT draws the reason why it has no answer.
 
 With --json FILE an object with "options", and perhaps "primary", all other items where it isn't there, and "secondary" is read, in whose options a list of
 two is an item with its colour; the answer is printed as a list of places, or null. Items and colours are texts or numbers. FILE may be -, the
@@ -30,6 +31,7 @@ from __future__ import annotations
 import argparse
 import contextlib
 import os
+import shlex
 import sys
 import textwrap
 import threading
@@ -69,7 +71,7 @@ from .why_none import in_words, told_lines
 Time = tuple[tuple[str, frozenset[str]], str]
 
 NO_ANSWER = 4
-# how long another answer is looked for where no time is told
+# how long another answer is looked for where no time is told, and a reason at most
 OTHER_SECONDS = 10.0
 # every so many seconds it is said that a search goes on, and so many lessons that moved are told
 WAITING, MOST_MOVED = 10.0, 20
@@ -178,32 +180,52 @@ def draw(given: Namespace, picture: Kind, title: str) -> None:
         print("\n".join(picture.text()))
 
 
-def tell_none(program: str, text: bytes, problem: Problem) -> None:
-    """Says that there is no solution, and why, where that takes no search."""
-    print("There is no solution.")
-    reason = any_reason(program, text, problem)
-    if reason and reason.holds(problem):
+def tell_none(program: str, puzzle: Puzzle, problem: Problem, given: Namespace, began: float) -> None:
+    """Says that there is no solution, and why, where that takes no search and no more than what is left of the time, and what may be mistyped; where
+    neither is known, how a reason can be searched for."""
+    print("There is no solution.", flush=True)
+    left = OTHER_SECONDS if given.seconds is None else min(OTHER_SECONDS, given.seconds - (time.monotonic() - began))
+    reason = any_reason(program, puzzle.text(), problem, left)
+    is_told = reason is not None and reason.holds(problem)
+    if reason and is_told:
         print("\n".join(told_lines(problem, reason.words(problem, in_words(problem)))))
+    if not tell_changes(program, puzzle.changes, given.seconds) and not is_told:
+        print(as_called(f"No reason was found without a search; {why_none_of(given)} searches for items that can't be covered together."))
+    tell_unwritten(given, f"; {why_none_of(given)} --svg OUT.svg draws the reason" if is_told else "")
 
 
-def tell_changes(program: str, changes: list[Change], seconds: Optional[float]) -> None:
-    """Says after which small changes of the puzzle there is a solution: one of these may be what is mistyped."""
+def why_none_of(given: Namespace) -> str:
+    """The command that says why the problem of a command line has no solution, and how that is kept if it isn't."""
+    return f"zarfepoch-why-none {shlex.quote(given.problem)}" if given.problem else "--problem FILE.dlx keeps the problem, and zarfepoch-why-none FILE.dlx"
+
+
+def tell_unwritten(given: Namespace, hint: str = "") -> None:
+    """Says that no picture or plan was written where the command line wants one, and there is no answer."""
+    if any(getattr(given, name, None) for name in ("out", "csv", "grid", "out_dir")):
+        what, answer = ("plan", "timetable") if given.kind == "timetable" else ("picture", "solution")
+        print(as_called(f"No {what} was written, since there is no {answer}{hint}."))
+
+
+def tell_changes(program: str, changes: list[Change], seconds: Optional[float]) -> bool:
+    """Says after which small changes of the puzzle there is a solution: one of these may be what is mistyped. Whether anything is said."""
     sys.stdout.flush()
-    for line in told_changes(program, changes, seconds or CHANGE_SECONDS):
-        print(line)
+    lines = told_changes(program, changes, seconds or CHANGE_SECONDS)
+    print("".join(line + "\n" for line in lines), end="")
+    return bool(lines)
 
 
 def solved(program: str, puzzle: Puzzle, given: Namespace) -> int:
     """Answers one problem and draws it; the exit status."""
-    text = puzzle.text()
-    problem = read_problem(text)
+    problem = read_problem(puzzle.text())
     if getattr(given, "all", False) or getattr(given, "count", False):
         return listed(program, puzzle, problem, given)
+    began = time.monotonic()
     found = asked(program, puzzle, given)
     if found.status == 1:
-        if not isinstance(puzzle, Timetable):
-            tell_none(program, text, problem)
-            tell_changes(program, puzzle.changes, given.seconds)
+        if isinstance(puzzle, Timetable):
+            tell_unwritten(given)
+        else:
+            tell_none(program, puzzle, problem, given, began)
         return 1
     answer = read_audited(found.text, problem)
     picture = picture_of(problem, [problem.options[place] for _, place in answer.chosen], False)
@@ -220,14 +242,14 @@ def listed(program: str, puzzle: Puzzle, problem: Problem, given: Namespace) -> 
     """Draws or counts all solutions of a puzzle; the exit status."""
     if given.out:
         stop("--out draws one solution, so it doesn't go with --all and --count")
-    tree, count, until = Tree(problem), 0, None if given.seconds is None else time.monotonic() + given.seconds
+    tree, count, began = Tree(problem), 0, time.monotonic()
     found = Covers(tree, lambda prefix: Asked(program, tree, prefix)).each(given.seconds)
     try:
         with contextlib.closing(found):
             for count, cover in enumerate(found, 1):
                 if given.all:
                     print("\n".join(picture_of(problem, [problem.options[place] for place in sorted(cover)], False).text()), end="\n\n", flush=True)
-                if until is not None and time.monotonic() > until:
+                if given.seconds is not None and time.monotonic() > began + given.seconds:
                     raise TimeIsUp
     except (ProgramError, OutOfMemory) as why:
         stop(why, 3)
@@ -235,8 +257,7 @@ def listed(program: str, puzzle: Puzzle, problem: Problem, given: Namespace) -> 
         print(f"There {'are' if count != 1 else 'is'} at least {plural(count, 'solution')}: the time was over before the end.")
         return 0 if count else NO_ANSWER
     if not count:
-        tell_none(program, puzzle.text(), problem)
-        tell_changes(program, puzzle.changes, given.seconds)
+        tell_none(program, puzzle, problem, given, began)
         return 1
     print(f"There {'are' if count != 1 else 'is'} {plural(count, 'solution')}.")
     return 0
@@ -292,6 +313,7 @@ def solve_kind(given: Namespace, words: list[str]) -> int:
             note_size(found[0])
     except PlainlyNone as why:
         tell_changes(program, why.changes, given.seconds)
+        tell_unwritten(given)
         raise
     statuses = []
     for number, puzzle in enumerate(found, 1):

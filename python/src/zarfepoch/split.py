@@ -9,8 +9,8 @@ are comments, name the prefix. So the covers of a part, each with its prefix, ar
 that has no option left is closed, and the list says so. If a prefix is a cover, there are no parts, and the list has the cover alone.
 
 zarfepoch-join FOLDER reads the answers of the parts; docs/MACHINES.md shows how they are searched. FILE may be -, the standard input. It wants no
-built program. The exit status is 0, 2 for a mistake on the command line, or 3 for a file that can't be read or is refused, or a folder that
-can't be written.
+built program. The exit status is 0, 2 for a mistake on the command line, or 3 for a file that can't be read or is refused, or where a folder
+or the standard output can't be written.
 """
 from __future__ import annotations
 

@@ -14,7 +14,7 @@ from dataclasses import dataclass, field
 from typing import Optional
 
 from .cover_files import shown
-from .name_texts import as_seen, hint_alike, want_one_spelling
+from .name_texts import as_seen, hint_alike, hint_slips, want_one_spelling
 from .puzzle_texts import read_text, refuse
 from .weeks import bare, day_of, Periods, want_joined, WEEKDAYS
 
@@ -304,9 +304,12 @@ def want_one_way(path: str, lessons: list[Lesson]) -> None:
 
 
 def hint_names(path: str, lessons: list[Lesson]) -> None:
-    """Tells of names that may be one: of people and rooms, of lessons of one class, and of words that keep lessons apart."""
+    """Tells of names that may be one: of people and rooms, of lessons of one class, and of words that keep lessons apart; and of slips."""
     for what in ("teacher", "class", "room"):
-        hint_alike(path, what, ((lesson.line, name) for lesson in lessons for role, names in roles_of(lesson) if role == what for name in names))
+        found = [(lesson.line, name) for lesson in lessons for role, names in roles_of(lesson) if role == what for name in names]
+        hint_alike(path, what, found)
+        hint_slips(path, what, found)
+    hint_slips(path, "lesson", ((lesson.line, lesson.title) for lesson in lessons))
     for classes in dict.fromkeys(tuple(lesson.classes) for lesson in lessons):
         hint_alike(path, "lesson", ((lesson.line, lesson.title) for lesson in lessons if tuple(lesson.classes) == classes))
     hint_alike(path, "word in apart", ((lesson.line, word) for lesson in lessons for word in lesson.apart))

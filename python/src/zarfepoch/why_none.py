@@ -4,8 +4,8 @@
 
 First it asks the program for a reason (solve_cli why FILE): an item in no option; too little room, as 25 lessons for the 24 periods
 of their teacher; or weights that each option adds up to 0 modulo some number, and all items together don't, as the colours of a
-chessboard. Where it has none, this counts items that are alike: nine people who meet in threes on five evenings make 45 meetings of two,
-and there are 36 pairs, each of which may meet once. That takes no search. It adds the reason up again by itself, and --svg draws it: the
+chessboard. Where it has none, this counts items that are alike, for ten seconds at most: nine people who meet in threes on five evenings make
+45 meetings of two, and there are 36 pairs, each of which may meet once. That takes no search. It adds the reason up again by itself, and --svg draws it: the
 board in the colours of the weights, where the items are cells of one, else the items beside what they weigh, need or have room for. Without
 a reason there is no picture.
 
@@ -16,7 +16,7 @@ needed.) It prints these items with the options that name them, and why, where t
 
 It wants the program: (cd crates/solve_cli && rt run -- --version) builds it. The exit status is 0 where there is no cover and a reason or items
 were found, 1 where there is a cover or the search wasn't finished, 2 for a mistake on the command line or where the program can't be
-run, 3 for a file that can't be read or is refused, or a picture that can't be written.
+run, 3 for a file that can't be read or is refused, or where a picture or the standard output can't be written.
 """
 from __future__ import annotations
 
@@ -41,6 +41,8 @@ from .whole_files import Unreadable, put, read_bytes
 # the exit status and the first word of each answer
 NONE, COVER, SPENT, OUT_OF_MEMORY = (1, b"none"), (0, b"cover"), (4, b"no"), (5, b"")
 SHOWN = 12
+# for so many seconds items that are alike are counted
+COUNTING = 10.0
 
 
 def text_without(problem: Problem, kept: list[bytes]) -> bytes:
@@ -203,7 +205,7 @@ def main() -> int:
     if given.program is None or not is_program(given.program):
         stop(missing_program(given.program))
     try:
-        reason = None if given.search else any_reason(given.program, text, problem)
+        reason = None if given.search else any_reason(given.program, text, problem, counting=COUNTING)
     except OSError as why:
         stop(f"the program can't be run: {why}")
     if reason:
