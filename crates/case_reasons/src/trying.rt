@@ -7,9 +7,13 @@
 use cover_problem::Problem;
 use std::alloc::{AllocError, Global};
 
-/// How many items are tried. Each of them costs a search for a reason, with its shortest option, also where there are no cases: with four a problem
-/// without any takes a few times as long as the search for a reason of it. On boards with odd pieces the first item has cases.
+/// How many items are tried at most. Each of them costs a search for a reason, with its shortest option, also where there are no cases. On boards with
+/// odd pieces the first item has cases.
 const MOST: usize = 4;
+
+/// How many items the options have, together, of all the problems in which these reasons are looked for. In larger problems, such as quasigroups of 30
+/// and full timetables of a school, one such search takes seconds, and none had cases.
+const MOST_SIZE: usize = 20_000;
 
 /// The options of an item.
 #[derive(Clone, Copy)]
@@ -43,6 +47,15 @@ fn prospects(alloc: Global, problem: &Problem) -> Result<Vec<Prospect>, AllocErr
     Ok(prospects)
 }
 
+/// How many items all options name.
+fn size_of(problem: &Problem) -> usize {
+    let mut size: usize = 0;
+    for option in 0..problem.options() as u16 {
+        size = size.saturating_add(problem.option(option).len());
+    }
+    size
+}
+
 /// The items that are tried, the most promising first. The only error is out of memory.
 pub(crate) fn items_to_try(alloc: Global, problem: &Problem) -> Result<Vec<u16>, AllocError> {
     let prospects = prospects(alloc, problem)?;
@@ -54,7 +67,7 @@ pub(crate) fn items_to_try(alloc: Global, problem: &Problem) -> Result<Vec<u16>,
         Some(prospect) => (usize::MAX.saturating_sub(prospect.shortest), prospect.count),
         None => (usize::MAX, 0),
     })?;
-    items.truncate(MOST);
+    items.truncate(MOST.min(MOST_SIZE / size_of(problem).max(1)));
     Ok(items)
 }
 
