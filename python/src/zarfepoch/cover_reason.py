@@ -192,7 +192,8 @@ def case_words(reason: Reason, problem: Problem, named: Named) -> Iterator[str]:
         return
     number, case = next(iter(reason.cases.items()))
     many = len(reason.cases)
-    yield f"each cover has one of the {plural(many, 'option')} of {called}, and none of them leaves one:"
+    yield (f"each cover has one of the {many:,} options of {called}, and beside none of them there is one:" if many > 1 else
+           f"each cover has the only option of {called}, and beside it there is none:")
     yield f"  {listed([named(name) for name in problem.options[number].names], SHOWN)}"
     yield from (f"    {line}" for line in case.words(beside(problem, number), named))
     if many > 1:
