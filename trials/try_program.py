@@ -131,13 +131,15 @@ def certificates(folder: str) -> None:
     letters, path = os.path.join(TOP, "examples", "letters.dlx"), os.path.join(folder, "none.certificate")
     expect("no reason", run("why", letters, "--certificate", path) == (b"no reason found\n", b"", 4) and not os.path.exists(path))
     expect("a certificate and fuel", run("alone", letters, "--certificate", path)[2] == 2 and not os.path.exists(path))
-    for problem, kind in (JUST_ENOUGH, b"just enough room"), (LAMP, b"cases art"):
+    for problem, kind in (JUST_ENOUGH, b"just enough room"), (LAMP, b"options of art"):
         unsaid = os.path.join(folder, "unsaid.dlx")
         with open(unsaid, "w", encoding="ascii") as opened:
             opened.write(problem)
         said = run("why", unsaid, "--certificate", path)
         expect(f"no line for {kind!r}", said[0].startswith(b"none\n" + kind + b"\n") and said[1].startswith(b"no certificate: ") and said[2] == 3)
         expect(f"no file for {kind!r}", not os.path.exists(path))
+        checked = run("check", unsaid, put(os.path.join(folder, "unsaid.reason"), said[0]))
+        expect(f"{kind!r} is no certificate", checked[0] == b"" and b"WrongCount" in checked[1] and checked[2] == 3)
     expect("the full disk is still there", os.path.exists("/dev/full"))
     kept_certificates(os.path.join(folder, "kept"))
     uncreated_certificates(os.path.join(folder, "uncreated"))

@@ -292,13 +292,13 @@ def test_odd_words(tmp_path: pathlib.Path) -> None:
                   "clique q:1 0 1 2"):
         assert checked(cliques.replace("clique q 0 1 2", wrong), text=held)[0] == 1, wrong
     halves = "a b c d\na b\na c\nb c\nb d\nc d\n"
-    cases = "none\ncases a\ncase 0\ntoo little room\nneed 1 c\nneed 1 d\nroom 1 b\ncase 1\ntoo little room\nneed 1 b\nneed 1 d\nroom 1 c\n"
+    cases = "none\noptions of a\noption 0\ntoo little room\nneed 1 c\nneed 1 d\nroom 1 b\noption 1\ntoo little room\nneed 1 b\nneed 1 d\nroom 1 c\n"
     triangle = "a b c\na b\nb c\na c\n"
-    of_triangle = "none\ncases a\ncase 0\ntoo little room\nneed 1 c\ncase 2\ntoo little room\nneed 1 b\n"
+    of_triangle = "none\noptions of a\noption 0\ntoo little room\nneed 1 c\noption 2\ntoo little room\nneed 1 b\n"
     assert checked(of_triangle, text=triangle) == (0, "right"), "cases"
     assert checked(cases, text=halves)[0] == 1, "cases of a problem with a cover"
-    for old, new in (("cases a", "cases b"), ("cases a", "cases x"), ("cases a", "cases"), ("case 2", "case 1"), ("case 2", "case 3"), ("case 2\n", ""),
-                     ("need 1 c", "need 1 a"), ("need 1 b", "room 1 b"), ("case 0\ntoo little room\nneed 1 c\n", "")):
+    for old, new in (("of a", "of b"), ("of a", "of x"), ("of a", "of"), ("option 2", "option 1"), ("option 2", "option 3"), ("option 2\n", ""),
+                     ("need 1 c", "need 1 a"), ("need 1 b", "room 1 b"), ("option 0\ntoo little room\nneed 1 c\n", ""), ("of a\n", "of a\nneed 1 b\n")):
         assert checked(of_triangle.replace(old, new), text=triangle)[0] == 1, (old, new)
     assert checked(room + "need 1 x\n")[0] == 1, "a need too many"
     assert checked(room + "room 1 c\n")[0] == 1, "just room"

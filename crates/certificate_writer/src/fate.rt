@@ -9,9 +9,9 @@ use dlx_reader::{Sink, Source};
 use search_engines::{EngineFault, read_all};
 use std::alloc::Global;
 
-/// What is said of a reason by just enough room, by cliques or by cases.
+/// What is said of a reason by just enough room, by cliques, or by the options of an item.
 const NO_LINE: &str =
-    "no line says just enough room, cliques or cases; alone --unlimited --certificate or learn --certificate may write one";
+    "no line says just enough room, cliques or options of an item; alone --unlimited --certificate or learn --certificate may write one";
 
 /// What became of a certificate that was to be written.
 #[derive(Clone, Copy, Debug, PartialEq, Eq)]

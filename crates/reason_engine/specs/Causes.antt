@@ -12,8 +12,8 @@ use Rattle.reason_engine.specs.declared.cause.Cause.{Cause}
 use Rattle.reason_engine.specs.declared.cause.Cause.TheVariants as causes
 use Rattle.used_items.specs.Orders.{IsPromoted}
 
--- whether it is one of the problem: a reason that holds of it, or of one that has the same exact covers, or cases, one of which each exact
--- cover would be
+-- whether it is one of the problem: a reason that holds of it, or of one that has the same exact covers, or cases: each exact cover has the option of
+-- one of them
 abbrev pub IsCause : Problem → Cause → Type 0
 IsCause problem (causes.AsItStands reason) = holds_of problem reason ≡ true
 IsCause problem (causes.ByUsedItems made reason) = IsPromoted problem made.room made.problem × (holds_of made.problem reason ≡ true)

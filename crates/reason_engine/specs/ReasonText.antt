@@ -37,10 +37,10 @@ number_text number = 32 ∷ decimal number
 abbrev pub clique_text : Clique → List ℕ
 clique_text clique = codes "clique " ++ clique.name ++ flat_map number_text clique.options ++ codes "\n"
 
--- the number of an option, and the lines of a reason, by the items of the problem
+-- the number of an option of it, and the lines of the reason once that is chosen, by the items of the problem
 abbrev pub case_text : Problem → Case → List ℕ
-case_text problem case = codes "case" ++ number_text case.option ++ codes "\n" ++ kind_text problem case.reason
+case_text problem case = codes "option" ++ number_text case.option ++ codes "\n" ++ kind_text problem case.reason
 
 -- the name of an item, and the lines of its cases
 abbrev pub cases_text : Problem → Cases → List ℕ
-cases_text problem cases = codes "cases " ++ name_text problem cases.item ++ codes "\n" ++ flat_map (case_text problem) cases.list.items
+cases_text problem cases = codes "options of " ++ name_text problem cases.item ++ codes "\n" ++ flat_map (case_text problem) cases.list.items

@@ -1,5 +1,8 @@
 //! Why a problem has no exact cover: a reason of it as it stands, with those items primary that each exact cover uses, or with items for cliques;
 //! or a reason for each option of an item, once that is chosen.
+//!
+//! They are looked for in this order, each only where those before it were not found: short reasons; reasons by used items; too little room by
+//! cliques; multipliers of any size; cases. What is found sooner, and is shorter to add up, comes first.
 
 ghost use Rattle.std.specs.Prelude.{◌≡◌, [], ◌++◌, codes, IfOk, IfSome};
 ghost use Rattle.cover_problem.specs.Prefix.{IsBarren};
@@ -28,7 +31,7 @@ pub enum Cause {
 }
 
 /// A cause by the problem that was made with more items primary, if a reason of that is found before the watch ends it. The only error is out
-/// of memory.
+/// of memory. (The problem itself is there for the contract alone.)
 fn cause_by_use<W: ReasonWatch>(
     alloc: Global,
     _problem: &Problem,
@@ -124,7 +127,7 @@ fn cause_by_multipliers_or_cases<W: ReasonWatch>(
 }
 
 /// A cause that takes longer to find than a short reason: by what the problem implies, or else by multipliers of any size, which take longer, or
-/// else by cases, each of which takes as long again.
+/// else by cases, for each of which such multipliers are looked for once more.
 fn cause_at_length<W: ReasonWatch>(
     alloc: Global,
     problem: &Problem,

@@ -216,7 +216,7 @@ fn push_case(text: &mut Vec<u8>, problem: &Problem, case: &Case) -> Result<(), A
     ensures { OnOk result
         (text.new.items ≡ text.old.items ++ case_text problem.now case.now) }
 {
-    text.extend_from_slice(b"case")?;
+    text.extend_from_slice(b"option")?;
     push_number(text, u32::from(case.option))?;
     text.extend_from_slice(b"\n")?;
     push_reason(text, problem, &case.reason)
@@ -252,7 +252,7 @@ pub fn cases_lines_of(
 ) -> Result<Vec<u8>, AllocError>
     ensures { IfOk result (λ text. text.items ≡ cases_text problem.now cases.now) }
 {
-    let mut text = Vec::from_slice(alloc, b"cases ")?;
+    let mut text = Vec::from_slice(alloc, b"options of ")?;
     text.extend_from_slice(name_of(problem, cases.item))?;
     text.extend_from_slice(b"\n")?;
     push_list(&mut text, problem, &cases.list)?;

@@ -32,7 +32,7 @@ def check(problem: Lines, reason: Lines) -> str:
     primary = set(items[:bar])
     options = [option for option in options if primary.intersection(option)]    # a line without a primary item is no option of a problem
     lines = reason[1:]
-    if lines[0][0] == b"cases":
+    if lines[0][:2] == [b"options", b"of"]:
         return check_cases(primary, options, lines)
     if lines[0] == [b"cliques"]:
         end = next(place for place, words in enumerate(lines) if place and words[0] != b"clique")
@@ -72,9 +72,11 @@ def add_up(primary: set[bytes], options: Lines, lines: Lines) -> str:
 
 def check_cases(primary: set[bytes], options: Lines, lines: Lines) -> str:
     """What is wrong with a reason for each option of an item; nothing where each holds of that option and those that don't clash with it."""
-    _, item = lines[0]
-    heads = [place for place, words in enumerate(lines) if words[0] == b"case"]
+    _, _, item = lines[0]
+    heads = [place for place, words in enumerate(lines) if words[0] == b"option"]
     numbers = [int(number) for _, number in (lines[place] for place in heads)]
+    if heads[:1] != [1][:len(lines) - 1]:
+        raise ValueError("a line before the first option says nothing")
     if item not in primary:
         return f"the item of the cases isn't primary: {shown(item)}"
     if numbers != [number for number, option in enumerate(options) if item in option]:
@@ -83,7 +85,7 @@ def check_cases(primary: set[bytes], options: Lines, lines: Lines) -> str:
         left = [other for place, other in enumerate(options) if place == number or not clash(options[number], other)]
         wrong = add_up(primary, left, lines[head + 1:end])
         if wrong:
-            return f"in case {number}, {wrong}"
+            return f"with option {number}, {wrong}"
     return ""
 
 

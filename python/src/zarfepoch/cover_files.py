@@ -287,7 +287,7 @@ def is_basis(words: Line) -> bool:
 
 def is_reason(words: Line) -> bool:
     """Whether a line is the first of a reason, as it stands behind `none`."""
-    return words[0].text in (b"weights", b"too", b"just", b"cliques", b"cases")
+    return words[0].text in (b"weights", b"too", b"just", b"cliques", b"options")
 
 
 def answer_lines(lines: list[Line]) -> list[Line]:

@@ -27,8 +27,8 @@ Named = Callable[[bytes], str]
 SHOWN = 12
 LINE = re.compile(rb"(weigh|need|room) ([0-9]+) (\S+)")
 CLIQUE = re.compile(rb"clique (\S+)((?: [0-9]+)*)")
-CASES = re.compile(rb"cases (\S+)")
-CASE = re.compile(rb"case ([0-9]+)")
+CASES = re.compile(rb"options of (\S+)")
+CASE = re.compile(rb"option ([0-9]+)")
 CLIQUES, ENOUGH = b"cliques", b"just enough room"
 HEAD = re.compile(rb"weights modulo [0-9]+|too little room|just enough room")
 

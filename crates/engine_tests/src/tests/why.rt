@@ -32,10 +32,10 @@ static REASONS: [(&str, &str, &str, u8); 7] = [
         "",
         1,
     ),
-    // a room has a lamp of one colour; two cases of a, or one of b
+    // a room has a lamp of one colour; a would take two cases, b takes one
     (
         "a b | x\na x:1\na x:2\nb x:3\n",
-        "none\ncases b\ncase 2\ntoo little room\nneed 1 a\n",
+        "none\noptions of b\noption 2\ntoo little room\nneed 1 a\n",
         "",
         1,
     ),

@@ -46,7 +46,7 @@ fn a_cause_is_found_and_written(rt: HostRuntime) -> Result<(), Fail> {
             .as_slice()
             .starts_with(b"just enough room\nneed 2 ab\n")
     );
-    let cases = b"cases art\ncase 2\ntoo little room\nneed 1 maths\n".as_slice();
+    let cases = b"options of art\noption 2\ntoo little room\nneed 1 maths\n".as_slice();
     assert!(rt; lines(rt.alloc(), LAMP, false)?.as_slice() == cases);
     Ok(())
 }
