@@ -8,12 +8,13 @@ use cover_problem::Problem;
 use std::alloc::{AllocError, Global};
 
 /// How many items are tried at most. Each of them costs a search for a reason, with its shortest option, also where there are no cases. On boards with
-/// odd pieces the first item has cases.
-const MOST: usize = 4;
+/// odd pieces the first item has cases; none of the other problems that were looked at had any behind its fourth.
+const MOST_ITEMS_TRIED: usize = 4;
 
-/// How many items the options have, together, of all the problems in which these reasons are looked for. In larger problems, such as quasigroups of 30
-/// and full timetables of a school, one such search takes seconds, and none had cases.
-const MOST_SIZE: usize = 20_000;
+/// How many nodes (items of options, all together) the problem may have for one item to be tried; half as many for two, and so on. In larger
+/// problems, such as quasigroups of 30 and full timetables of a school, one search for a reason takes seconds, and none had cases. It doesn't bound what
+/// follows once an item is promising: a reason is looked for with each of its options.
+const MOST_NODES_TRIED: usize = 20_000;
 
 /// The options of an item.
 #[derive(Clone, Copy)]
@@ -48,12 +49,12 @@ fn prospects(alloc: Global, problem: &Problem) -> Result<Vec<Prospect>, AllocErr
 }
 
 /// How many items all options name.
-fn size_of(problem: &Problem) -> usize {
-    let mut size: usize = 0;
+fn nodes_of(problem: &Problem) -> usize {
+    let mut nodes: usize = 0;
     for option in 0..problem.options() as u16 {
-        size = size.saturating_add(problem.option(option).len());
+        nodes = nodes.saturating_add(problem.option(option).len());
     }
-    size
+    nodes
 }
 
 /// The items that are tried, the most promising first. The only error is out of memory.
@@ -63,11 +64,12 @@ pub(crate) fn items_to_try(alloc: Global, problem: &Problem) -> Result<Vec<u16>,
     for item in 0..problem.primary() as u16 {
         items.push(item)?;
     }
+    // (that with the longest first; an item without options would come before all, but then there is a reason without cases)
     items.sort_by_key(|item| match prospects.get(*item as usize) {
         Some(prospect) => (usize::MAX.saturating_sub(prospect.shortest), prospect.count),
         None => (usize::MAX, 0),
     })?;
-    items.truncate(MOST.min(MOST_SIZE / size_of(problem).max(1)));
+    items.truncate(MOST_ITEMS_TRIED.min(MOST_NODES_TRIED / nodes_of(problem).max(1)));
     Ok(items)
 }
 

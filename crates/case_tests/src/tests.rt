@@ -1,7 +1,8 @@
 //! Problems once an option is chosen, and cases that are found; all were worked out by hand.
 //!
-//! Of the bugs of `case_reasons` that are kept outside the gate, `cases_are_found` finds `nothing_is_promising`, `short_options_come_first` and
-//! `three_items_are_tried`, and `a_watch_ends_it` finds `the_watch_is_not_handed_on`.
+//! Of the bugs of `case_reasons` that are kept outside the gate, `cases_are_found` finds `nothing_is_promising`, `short_options_come_first`,
+//! `three_items_are_tried` and `five_items_are_tried`, `large_problems_are_not_tried` finds `problems_of_any_size_are_tried`, and `a_watch_ends_it`
+//! finds `the_watch_is_not_handed_on`.
 
 use case_reasons::{Cases, after_choice, find_cases_until};
 use cover_problem::Problem;
@@ -123,7 +124,7 @@ fn found_in<W: ReasonWatch>(
 }
 
 /// Problems, and the item of the cases that are found, with the options that name it.
-static FOUND: [(&str, &str); 6] = [
+static FOUND: [(&str, &str); 7] = [
     // a triangle: with any edge its third corner is left
     ("a b c\na b\nb c\na c\n", "0: 0 2"),
     // `a` and `b` can't agree on a colour of x
@@ -133,6 +134,8 @@ static FOUND: [(&str, &str); 6] = [
     ("a b\na\nb\n", ""),
     // p, q and r are tried first, since their option is longer, and say nothing
     ("p q r a b | x\np q r\na x:1\na x:2\nb x:3\n", "4: 3"),
+    // with s there are four of these, and no other item is tried
+    ("p q r s a b | x\np q r s\na x:1\na x:2\nb x:3\n", ""),
     // c to g, whose options are shorter, aren't tried
     (
         "c d e f g a b | x\nc\nd\ne\nf\ng\na x:1\na x:2\nb x:3\n",
@@ -147,6 +150,36 @@ fn cases_are_found(rt: HostRuntime) -> Result<(), Fail> {
         let problem = problem_of(&rt, alloc, *file);
         let text = found_in(alloc, &problem, &mut Endless)?;
         assert!(rt; text.as_str() == *cases, "{file} {text}");
+    }
+    Ok(())
+}
+
+/// An item `b` whose only option has `long` secondary items, and an item `a` with so many options of one item less, each of which clashes with that.
+fn crowded(alloc: Global, long: u16, options: u16) -> Result<String, AllocError> {
+    let mut text = String::from_str(alloc, "a b |")?;
+    let mut names = String::new(alloc);
+    for item in 1..long {
+        names.push_str(format!(in alloc; " y{item}")?.as_str())?;
+    }
+    text.push_str(names.as_str())?;
+    text.push_str(format!(in alloc; " z\nb z{names}\n")?.as_str())?;
+    for _option in 0..options {
+        text.push_str(format!(in alloc; "a{names}\n")?.as_str())?;
+    }
+    Ok(text)
+}
+
+/// So many options of 100 items beside one of 101, and the cases that are found: with 20,000 items of options one item is tried, with more none.
+static CROWDED: [(u16, &str); 2] = [(198, "1: 0"), (199, "")];
+
+#[test]
+fn large_problems_are_not_tried(rt: HostRuntime) -> Result<(), Fail> {
+    let alloc = rt.alloc();
+    for (options, cases) in CROWDED {
+        let text = crowded(alloc, 100, options)?;
+        let problem = problem_of(&rt, alloc, text.as_str());
+        let found = found_in(alloc, &problem, &mut Endless)?;
+        assert!(rt; found.as_str() == cases, "{options}");
     }
     Ok(())
 }
