@@ -51,7 +51,7 @@ pub(crate) struct Found {
 }
 
 /// An answer of a lane that has one; none where the search was stopped before any had. The only error is out of memory, where the search ran out of
-/// it, and no other lane has an answer.
+/// it, and no other lane has an answer. (The problem is there for the contract alone.)
 pub(crate) fn first_of(_problem: &Problem, found: Found) -> Result<Option<Won>, AllocError>
     requires searched { IfOk found.searched (λ won. IfSome won (IsWonOf _problem.now)) }
     requires learned { IfOk found.learned (λ won. IfSome won (IsWonOf _problem.now)) }
@@ -154,8 +154,8 @@ fn decided<V: EndWatch, R: Threads + Wait + Clock + Sync>(
     settled(task, problem, watch, found)
 }
 
-/// Returns what the lanes found, of which the watch hears, or else the answer of a search alone, unless the time is limited. The only error is
-/// out of memory.
+/// Returns what the lanes found, or else the answer of a search alone, unless the time is limited. The watch hears what the answer rests on, but no
+/// step of that search. The only error is out of memory.
 pub(crate) fn settled<V: EndWatch, R: Threads + Wait + Clock + Sync>(
     task: &Task<'_, R>,
     problem: &Problem,
@@ -174,7 +174,11 @@ pub(crate) fn settled<V: EndWatch, R: Threads + Wait + Clock + Sync>(
     match &task.time {
         Some(_) => Ok(None),
         // (without a limit no lane ends before another has an answer, unless memory runs out)
-        None => Ok(Some(searched_alone(task.alloc, problem)?)),
+        None => {
+            let won = searched_alone(task.alloc, problem)?;
+            watch.tell(won.basis.line());
+            Ok(Some(won))
+        }
     }
 }
 

@@ -121,7 +121,7 @@ pub(crate) fn heard_search_lane<V: EndWatch, T: Trace + ReasonListener, C: Clock
     let race = watch.race;
     race.begin();
     let found = decided_aloud(alloc, problem, watch, listener);
-    // (where it has no answer it was stopped, by another lane's or since the time is over)
+    // (where it has no answer it was stopped, by another lane's answer or because the time is over)
     if found.is_ok() {
         race.end();
     }

@@ -48,7 +48,7 @@ pub(crate) fn search_lane<V: EndWatch, C: Clock>(
     let race = watch.race;
     race.begin();
     let found = searched(alloc, problem, watch);
-    // (where it has no answer it was stopped, by another lane's or since the time is over)
+    // (where it has no answer it was stopped, by another lane's answer or because the time is over)
     if found.is_ok() {
         race.end();
     }
