@@ -2,29 +2,29 @@
 
 use udp_node::{EndCause, SiteEnd};
 
-/// Why the sites of a run ended, as far as it says why the run has no answer.
+/// Why the first site ended that didn't end with the search: the others end because of it, so it says why the run has no answer.
 #[derive(Clone, Copy)]
 pub(crate) struct FirstCause {
-    /// Why the first site ended that didn't end with the search, if one did.
-    first: Option<&'static str>,
+    /// None as long as no site has ended so.
+    text: Option<&'static str>,
 }
 
 impl FirstCause {
     /// Of a run in which no site has ended.
     pub(crate) fn new() -> FirstCause {
-        FirstCause { first: None }
+        FirstCause { text: None }
     }
 
-    /// Notes that a site has ended so. The first that didn't end with the search is kept, since the others end because of it.
+    /// Notes that a site has ended so.
     pub(crate) fn hear(&mut self, end: &SiteEnd) {
-        if end.cause != EndCause::Over && self.first.is_none() {
-            self.first = Some(cause_text(end));
+        if end.cause != EndCause::Over && self.text.is_none() {
+            self.text = Some(cause_text(end));
         }
     }
 
     /// Why there is no answer, with what may give one.
     pub(crate) fn why(&self) -> &'static str {
-        self.first
+        self.text
             .unwrap_or("nothing was published: try again, or answer")
     }
 }

@@ -1,3 +1,5 @@
+//! How a thread acts at its site: an event goes into the core under its lock, and packets go out once the lock is free.
+
 ghost use Rattle.std.specs.Prelude.{◌≡◌, true, IfErr, IfOk};
 ghost use Rattle.node_core.specs.Formed.{AllFormed};
 ghost use Rattle.node_core.specs.Refusal.{IsFit};

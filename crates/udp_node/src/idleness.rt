@@ -70,10 +70,10 @@ fn stride(idle: u32) -> u32
     }
 }
 
-/// How long an idle turn waits, in microseconds, after so many in a row: from 20 on, and at most a thousand, or 125 for each worker
-/// that there is in all where that is more: so those of a run ask at most some 125 times a second together, however many they are.
-/// After each 64, when it asked again, it waits one longer for each of these workers: so many that ask at once leave those at work
-/// alone.
+/// How long an idle turn waits, in microseconds, after so many in a row: min(20 + idle / 64 · workers, max(1,000, 125 · workers)).
+///
+/// The longest wait grows with the workers, so that those of a run ask at most some 125 times a second together, however many they are. It gets
+/// longer by one for each worker whenever this one asks again, so that many that ask at once leave those at work alone.
 fn nap(idle: u32, workers: u64) -> u64 {
     let longest = workers.saturating_mul(125).max(1_000);
     let more = u64::from(idle / ASKING).saturating_mul(workers);

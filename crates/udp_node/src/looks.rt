@@ -1,3 +1,8 @@
+//! When a worker that found no work looks for some again.
+//!
+//! Each look is an event, and so an entry of the book. A count of what moved at the site, read before a look, says whether the next one can find
+//! anything else: a sequence lock's way to see a change without a lock.
+
 use crate::signals::Signals;
 
 /// What a worker knows of its looks at the core: one more is worth its entry in the book only if something moved since the last that

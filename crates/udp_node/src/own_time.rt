@@ -1,3 +1,8 @@
+//! A clock that stands still while the process does.
+//!
+//! A process that was stopped, or a machine that slept, wakes to a clock that is far ahead, and would take the silence of its own absence for that
+//! of the others. So no more than a tenth of a second counts from one look to the next.
+
 use std::time::{Clock, Duration, Instant};
 
 /// How many milliseconds count at most from one look at the clock to the next: where the whole process was held up for longer, nothing

@@ -38,8 +38,8 @@ pub struct Schedule {
     pause: u64,
     /// How much that may be lost was said by the last look.
     said: u64,
-    /// How often the end is announced yet, once the search is over.
-    announcements: Option<u64>,
+    /// How often the end is still to be announced, once the search is over.
+    announcements_left: Option<u64>,
     /// When the site was seen to be about to end first.
     ending: Option<u64>,
 }
@@ -61,7 +61,7 @@ impl Schedule {
             again: pause,
             pause,
             said: 0,
-            announcements: None,
+            announcements_left: None,
             ending: None,
         }
     }
@@ -105,7 +105,7 @@ impl Schedule {
         }
         self.pause = self.next_pause();
         self.again = now.saturating_add(self.pause);
-        self.announcements = self.announcements.map(|left| left.saturating_sub(1));
+        self.announcements_left = self.announcements_left.map(|left| left.saturating_sub(1));
         true
     }
 
@@ -120,18 +120,18 @@ impl Schedule {
 
     /// The search is over: from now on the end is announced.
     pub fn end(&mut self, now: u64) {
-        self.announcements = Some(END_AGAINS);
+        self.announcements_left = Some(END_AGAINS);
         self.again = now.saturating_add(END_PAUSE);
     }
 
     /// Whether that is so.
     pub fn is_over(&self) -> bool {
-        self.announcements.is_some()
+        self.announcements_left.is_some()
     }
 
     /// Whether the end was announced often enough.
     pub fn has_announced(&self) -> bool {
-        self.announcements == Some(0)
+        self.announcements_left == Some(0)
     }
 
     /// Answers whether a site that is to end ends now: where its receive was empty, or packets came for long since it was first asked.

@@ -1,3 +1,8 @@
+//! The receipts of a thread for the events that it brought to its site's core.
+//!
+//! A cell counts the seats that it gave and the events of each, and closes only with all seats and as many receipts: so no event is missing
+//! in the books of a run that has ended.
+
 ghost use Rattle.std.specs.Prelude.{◌≡◌, ◌+◌, vec_len, IfErr, IfOk};
 ghost use Rattle.node_core.specs.Refusal.{IsFit};
 ghost use Rattle.run_book.specs.RecordedCores.{IsLawful};

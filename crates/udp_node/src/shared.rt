@@ -44,7 +44,7 @@ impl<J: Run, C: Core + Drop, N: CellName, H: Gate + Follower> Shared<'_, J, C, N
         self.signals.is_stopped() || self.context.ending.has_come(rt)
     }
 
-    /// Why the thread that receives is to end, if it is: with the site or the run, or since no worker is left.
+    /// Why the thread that receives is to end once a receive is empty, if it is: with the site or the run, or since no worker is left.
     pub fn cause_once_drained<R: Clock>(&self, rt: &R) -> Option<EndCause> {
         // (the registry has no workers, so its one thread that acts is alone from the start)
         let is_deserted = self.cell.site().node != 0 && self.signals.is_deserted();

@@ -1,3 +1,8 @@
+//! What the threads of a site tell one another beside the lock of its core.
+//!
+//! Counts and flags in atomics, and a parker for each thread that waits: a rousing leaves a token, so none is lost between a look and a wait. All of
+//! it is hints. A stale one costs a look at the core, or a wait, and never an answer.
+
 use site_limits::Hunger;
 use std::sync::Wait;
 use std::sync::atomic::{AtomicBool, AtomicU64, Ordering};
