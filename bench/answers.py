@@ -32,7 +32,7 @@ from typing import Optional
 
 import finding
 import learning
-from encodings_of_peers import formula_of, program_of, read
+from encodings_of_peers import formula_of, program_of
 from implied import highs
 
 HERE = os.path.dirname(os.path.abspath(__file__))
@@ -107,8 +107,7 @@ def by_cadical(file: str, seconds: int) -> Optional[bool]:
 
 def by_highs(file: str, seconds: int) -> Optional[bool]:
     """Whether HiGHS finds a cover; None where options have colours."""
-    has_colours = any(colour for option in read(file).options for _, colour in option)
-    return None if has_colours else highs(file, seconds)[0]
+    return highs(file, seconds)[0]
 
 
 def gecode_in(folder: str) -> Optional[str]:

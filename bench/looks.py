@@ -24,7 +24,7 @@ import tempfile
 import time
 from collections.abc import Callable, Iterable
 
-from implied import planned
+from implied_kinds import planned
 from problems import write
 
 HERE = os.path.dirname(os.path.abspath(__file__))
