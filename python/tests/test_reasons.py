@@ -246,16 +246,17 @@ BY_HAND = problems_by_hand()
 
 @pytest.mark.parametrize("what, problem, reason", BY_HAND, ids=[what for what, _, _ in BY_HAND])
 def test_by_hand(what: str, problem: str, reason: bytes) -> None:
-    """The reason on the page holds, and the program writes it. It has cliques, just enough room, or room for more than 1 of an item."""
+    """The reason on the page holds, and the program writes it. It has cliques, just enough room, room for more than 1 of an item, or cases."""
     assert is_checked(problem, reason), f"the reason of {what} doesn't hold"
     added = Reason(reason)
     assert added.holds(read_problem(problem.encode())), f"the reason of {what} doesn't hold by its own sums"
-    assert added.cliques or added.full_rooms or max(added.rooms.values()) > 1, f"the reason of {what} is of another kind than the page says"
+    is_new = added.cliques or added.full_rooms or added.cases or max(added.rooms.values()) > 1
+    assert is_new, f"the reason of {what} is of another kind than the page says"
     assert why(problem) == (1, reason), f"what the program writes for {what}"
 
 
-def test_ten_by_hand() -> None:
-    assert len(BY_HAND) == 10, "the page says ten"
+def test_all_by_hand() -> None:
+    assert len(BY_HAND) == 11, "the page says eleven"
 
 
 # ---- check_reason.py by its words
