@@ -118,16 +118,21 @@ def crossing(path: str, draw: random.Random) -> None:
           [[name, *(f"p{who}-{period}" for who in whose)] for name, whose in lessons for period in range(LINES - 1)])
 
 
-def pieces(path: str, draw: random.Random) -> None:
-    """An X, an I and dominoes on a square board of ten, twelve or fourteen rows, whose options come in an order that is drawn."""
-    side = draw.choice((10, 12, 14))
+def odd_board(side: int) -> tuple[list[str], list[list[str]]]:
+    """The items and options of a square board of so many rows for an X and an I of five squares each, and dominoes."""
     cross, bar = ((0, 1), (1, 0), (1, 1), (1, 2), (2, 1)), tuple((0, place) for place in range(5))
     shapes = [("X", cross), ("I", bar), ("I", tuple((c, r) for r, c in bar)), ("", bar[:2]), ("", ((0, 0), (1, 0)))]
     options = [[*filter(None, [piece]), *(f"{row + r}-{column + c}" for r, c in shape)]
                for piece, shape in shapes for row, column in itertools.product(range(side), repeat=2)
                if all(row + r < side and column + c < side for r, c in shape)]
+    return ["X", "I", *(f"{r}-{c}" for r in range(side) for c in range(side))], options
+
+
+def pieces(path: str, draw: random.Random) -> None:
+    """Such a board of ten, twelve or fourteen rows, whose options come in an order that is drawn."""
+    items, options = odd_board(draw.choice((10, 12, 14)))
     draw.shuffle(options)
-    write(path, ["X", "I", *(f"{r}-{c}" for r in range(side) for c in range(side))], options)
+    write(path, items, options)
 
 
 def boxes(path: str, draw: random.Random) -> None:

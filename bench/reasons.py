@@ -24,6 +24,7 @@ from typing import Optional
 HERE = os.path.dirname(os.path.abspath(__file__))
 sys.path.insert(0, os.path.join(HERE, "..", "trials"))
 from built import SOLVE_CLI, TOP, number_from_one, parser_of, stop, want_program  # noqa: E402
+from implied_kinds import odd_board  # noqa: E402
 import measured  # noqa: E402
 from problems import put, straight  # noqa: E402
 from zarfepoch.cells import names_of, rectangle  # noqa: E402
@@ -36,11 +37,12 @@ EXAMPLES = ("langford-5", "mutilated-chessboard", "tetrominoes-4x5")
 INSTANCES = ("triples-19", "triples-22", "torus-queens-14", "torus-queens-14-all", "torus-queens-15", "torus-queens-15-all",
              "torus-queens-16", "torus-queens-16-all", "diamond", "scattered-19", "crowd", "word-squares-4", "sudoku-hard")
 LIMITS = (2, 4, 10)
+BOARDS = (8, 10, 12, 14)
 QUASIGROUPS = ((15, 110, 0), (15, 110, 2), (20, 220, 2), (25, 340, 2))
 FAMILIES = ("dominoes-20x20", "dominoes-30x30", "langford-13", "langford-14", "langford-16", "langford-17", "langford-18", "langford-22",
             "t-tetrominoes-22x22", "straight-trominoes-14x14", "steiner-10", "steiner-11", "class-25-in-24", "school-of-8",
             *(f"quasigroup-{order}-{filled}-{seed}" for order, filled, seed in QUASIGROUPS),
-            *(f"limits-{size}" for size in LIMITS))
+            *(f"odd-pieces-{side}" for side in BOARDS), *(f"limits-{size}" for size in LIMITS))
 
 
 # ---- what the folder of instances lacks
@@ -106,6 +108,9 @@ def write_instances(folder: str) -> None:
     for order, filled, seed in QUASIGROUPS:
         square = quasigroup(order, filled, seed)
         put(folder, f"quasigroup-{order}-{filled}-{seed}", f"{len(square.primary)} items are free", square)
+    for side in BOARDS:
+        items, pieces = odd_board(side)
+        put(folder, f"odd-pieces-{side}", "an X, an I and dominoes", Puzzle(items, [], pieces))
     for size in LIMITS:
         put(folder, f"limits-{size}", "a cover, among many options", limits(size))
 
@@ -130,7 +135,8 @@ def reason_of(file: str, text: str) -> tuple[str, str]:
     if checked.returncode:
         sys.exit(f"{file}: {checked.stdout}")
     _, kind, *lines = text.splitlines()
-    return kind.replace("weights modulo", "modulo"), f"{len(lines):,}"
+    named = sum(line.startswith(("weigh ", "need ", "room ")) for line in lines)
+    return kind.replace("weights modulo", "modulo"), f"{named:,}"
 
 
 def cells_of(file: str, seconds: int, times: int) -> Iterator[str]:
