@@ -4,7 +4,8 @@ from __future__ import annotations
 import itertools
 import re
 
-from .picture_base import Cell, CELL, cell_of, Kind, known_cell, LARGEST, Names
+from .cells import Cell, cell_of, known_cell
+from .picture_base import CELL, Kind, LARGEST, Names
 from .svg_paper import ACCENT, Board, FAINT, INK, Paper
 from .terminal_text import on_left, widest
 

@@ -7,16 +7,14 @@ import re
 from collections.abc import Iterable, Iterator
 from typing import Optional
 
-from .cells import cell_names
+from .cells import Cell, cell_names, cell_words
 from .cover_files import MAX_OCCURRENCES, MAX_OPTIONS
 from .fault_words import plural
 from .name_texts import names_in
-from .picture_base import cell_words
 from .puzzle_texts import blocks_of, Change, no_cover, Puzzle, refuse
 from .sudokus import cells_by_letter, letters_of, sums_of_digits, want_whole
 
-# a cell by row and column; the sum below a black cell and the one on its right
-Cell = tuple[int, int]
+# the sum below a black cell and the one on its right
 Clue = tuple[Optional[int], Optional[int]]
 # a sum that may be any
 ANY = -1

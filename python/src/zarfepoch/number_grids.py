@@ -7,18 +7,15 @@ import math
 import re
 from collections import Counter
 from collections.abc import Iterator
-from typing import Optional
 
-from .cells import cell_names
+from .cells import Cell, cell_names, cell_words
 from .cover_files import MAX_OPTIONS
 from .fault_words import plural, with_article
 from .name_texts import names_in
-from .picture_base import cell_words
 from .puzzle_texts import blocks_of, Change, no_cover, Puzzle, refuse, rows_of
 from .sudokus import cells_by_letter, EMPTY, letters_of, want_whole
 
-# a cell by row and column; the words of each line with its number
-Cell = tuple[int, int]
+# the words of each line with its number
 Rows = list[tuple[int, list[str]]]
 
 

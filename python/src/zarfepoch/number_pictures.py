@@ -4,9 +4,10 @@ from __future__ import annotations
 import itertools
 import re
 
+from .cells import Cell, cell_of, cell_words, known_cell
 from .fault_words import with_article
 from .grid_pictures import line_words, WHITE
-from .picture_base import Cell, CELL, cell_of, cell_words, Kind, known_cell, LARGEST
+from .picture_base import CELL, Kind, LARGEST
 from .svg_paper import ACCENT, Board, FAINT, FILLS, INK, Paper
 
 TREE, TENT, GRASS = "#4c8a4f", ACCENT, "#eaf3e4"

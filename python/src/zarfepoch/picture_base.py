@@ -1,4 +1,4 @@
-"""What all kinds of pictures share: an answer with the names of its problem, and how names of cells are read."""
+"""What all kinds of pictures share: an answer with the names of its problem."""
 from __future__ import annotations
 
 import functools
@@ -6,12 +6,12 @@ import re
 from collections.abc import Iterable
 from typing import Optional
 
+from .cells import cell_of, cell_words
 from .cover_files import Option, Problem, shown
 from .svg_paper import folded, MARGIN, Paper, WIDEST
 
-# the names of an option; a cell by row and column
+# the names of an option
 Names = tuple[str, ...]
-Cell = tuple[int, int]
 
 CELL, LARGEST = 40, 1_000
 NONE = "none: the answer is that there is no cover"
@@ -104,48 +104,6 @@ class Kind:
         """Under the picture of an answer without a cover, that there is none."""
         if self.is_none:
             paper.text((paper.left + paper.right) / 2, paper.bottom + 22, "none: there is no cover", 15)
-
-
-# ---- boards
-
-@functools.lru_cache(maxsize=1 << 16)
-def cell_of(name: str) -> Cell | None:
-    """The row and the column that a name tells, as 07, 0011 or 3-12; None where it tells none."""
-    if re.fullmatch(r"\d+", name) and len(name) % 2 == 0:
-        return int(name[:len(name) // 2]), int(name[len(name) // 2:])
-    found = re.fullmatch(r"(\d+)-(\d+)", name)
-    return (int(found[1]), int(found[2])) if found else None
-
-
-def cell_words(cell: Cell, added: int = 1) -> str:
-    """A cell as people count, from 1; so much is added to its numbers."""
-    return f"row {cell[0] + added} column {cell[1] + added}"
-
-
-def known_cell(name: str) -> Cell:
-    """The same of a name that is known to be one of a cell."""
-    cell = cell_of(name)
-    if cell is None:
-        raise ValueError(f"{name} is no cell")
-    return cell
-
-
-def sheet_cell_of(name: str) -> Cell | None:
-    """The same of a name as A1 or C12, whose letter is the column and whose number the row, as in a spreadsheet."""
-    found = re.fullmatch(r"([A-Z])([1-9]\d{0,2})", name)
-    return (int(found[2]) - 1, ord(found[1]) - ord("A")) if found else None
-
-
-def is_connected(cells: Iterable[Cell]) -> bool:
-    """Whether the cells hang together by their edges."""
-    left = set(cells)
-    count, reached = len(left), list[Cell]()
-    while left and (reached or len(left) == count):
-        r, c = reached.pop() if reached else left.pop()
-        near = {(r + a, c + b) for a, b in ((0, 1), (1, 0), (0, -1), (-1, 0))} & left
-        left -= near
-        reached += near
-    return not left
 
 
 def draw_lines(paper: Paper, lines: list[str], size: int = 14) -> None:

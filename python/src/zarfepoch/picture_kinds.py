@@ -9,10 +9,11 @@ from typing import Optional
 
 from . import number_pictures
 from .board_pictures import Layers, Tiling
+from .cells import Cell, cell_of, known_cell
 from .cover_files import Option, Problem
 from .full_names import full_names
 from .grid_pictures import Kakuro, Nonogram, Stars, WHITE, Words
-from .picture_base import CELL, Cell, cell_of, draw_lines, Kind, known_cell, known_colour, Names
+from .picture_base import CELL, draw_lines, Kind, known_colour, Names
 from .planar import places
 from .sudoku_pictures import Sudoku
 from .svg_paper import ACCENT, BACKGROUND, FAINT, FILLS, INK, on_circle, Paper, Point, table_text, text_width, WIDEST

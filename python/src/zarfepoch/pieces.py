@@ -9,15 +9,13 @@ from __future__ import annotations
 import itertools
 import os
 import re
-from collections.abc import Iterable, Sequence
+from collections.abc import Iterable
 
 from .cover_files import MAX_ITEMS
 from .fault_words import plural
 from .name_texts import names_in
 from .puzzle_texts import blocks_of, no_cover, Puzzle, refuse
-
-# a cell by layer, row and column
-Cell = tuple[int, int, int]
+from .turns import Cell, layers_of, minus, orientations
 
 FLAT = {
     "I1": "x", "I2": "xx", "I3": "xxx", "V3": "xx/x.", "I4": "xxxx", "L4": "xxx/x..", "O4": "xx/xx", "S4": ".xx/xx.", "T4": "xxx/.x.",
@@ -40,11 +38,6 @@ class Piece:
 
 
 # ---- texts
-
-def layers_of(rows: list[str]) -> list[Cell]:
-    """The cells of rows of x and dots, whose words are layers side by side."""
-    return [(layer, r, c) for r, row in enumerate(rows) for layer, word in enumerate(row.split()) for c, mark in enumerate(word) if mark in "xX"]
-
 
 def rows_text(cells: list[Cell]) -> str:
     """A piece's rows of x and dots in one line, as a comment tells them."""
@@ -145,41 +138,7 @@ def is_one(cells: list[Cell]) -> bool:
     return not left - {cells[0]}
 
 
-# ---- turns
-
-def turns(is_flat: bool, flips: bool) -> list[tuple[tuple[int, ...], tuple[int, ...]]]:
-    """The ways to turn a piece, each as an order of the axes and their signs."""
-    ways = []
-    for order in itertools.permutations(range(3)):
-        for signs in itertools.product((1, -1), repeat=3):
-            odd = sum(order[a] > order[b] for a, b in itertools.combinations(range(3), 2)) + signs.count(-1)
-            is_turn = odd % 2 == 0
-            if order[0] == 0 and signs[0] == 1 and (flips or is_turn) if is_flat else is_turn:
-                ways.append((order, signs))
-    return ways
-
-
-def minus(cell: Sequence[int], other: Sequence[int]) -> Cell:
-    """What leads from one cell to another."""
-    return cell[0] - other[0], cell[1] - other[1], cell[2] - other[2]
-
-
-def orientations(cells: list[Cell], is_flat: bool, flips: bool) -> list[list[Cell]]:
-    """The different turns of a piece, each moved to the origin."""
-    seen: list[list[Cell]] = []
-    for order, signs in turns(is_flat, flips):
-        moved = at_origin([tuple(sign * cell[axis] for axis, sign in zip(order, signs)) for cell in cells])
-        if moved not in seen:
-            seen.append(moved)
-    return sorted(seen)
-
-
-def at_origin(cells: Iterable[Sequence[int]]) -> list[Cell]:
-    """The cells moved to the origin."""
-    places = list(cells)
-    least = [min(cell[k] for cell in places) for k in range(3)]
-    return sorted(minus(cell, least) for cell in places)
-
+# ---- items
 
 def placements(piece: Piece, board: set[Cell], is_flat: bool, flips: bool) -> list[list[Cell]]:
     """The cells of the board under each way to lay a piece, in the order of the first cell."""
@@ -191,8 +150,6 @@ def placements(piece: Piece, board: set[Cell], is_flat: bool, flips: bool) -> li
                 found.append(sorted(cells))
     return sorted(found)
 
-
-# ---- items
 
 def ways_to_sum(sizes: list[int], total: int) -> int:
     """In how many ways, at most two, numbers of these sizes make a sum."""

@@ -4,16 +4,14 @@ from __future__ import annotations
 import functools
 import re
 
+from .boxes import BOXES
+from .cells import Cell
 from .fault_words import with_article
-from .picture_base import Cell, CELL, Kind, Names
+from .picture_base import CELL, Kind, Names
 from .svg_paper import ACCENT, Board, INK, Paper
 from .terminal_text import on_right, widest
 
-# rows and columns of a box, by the size of the sudoku
-BOXES = {4: (2, 2), 6: (2, 3), 8: (2, 4), 9: (3, 3), 10: (2, 5), 12: (3, 4), 14: (2, 7), 15: (3, 5), 16: (4, 4), 20: (4, 5), 25: (5, 5)}
 EMPTY, GIVEN, DIAGONAL, DIAGONAL_GIVEN = "#fffdf8", "#ebe6da", "#e3edf7", "#d5dfe6"
-# digits, and numbers of regions, above nine
-MARKS = "123456789ABCDEFGHIJKLMNOP"
 
 
 def boxes(size: int) -> dict[Cell, int]:

@@ -16,14 +16,13 @@ from collections import Counter
 from collections.abc import Iterable, Iterator, Sequence
 from typing import NoReturn, Optional
 
+from .boxes import BOXES, MARKS
+from .cells import Cell, cell_words, is_connected
 from .fault_words import plural
 from .name_texts import names_in
-from .picture_base import cell_words, is_connected
 from .puzzle_texts import blocks_of, Change, no_cover, Puzzle, read_text, refuse, TYPED
-from .sudoku_pictures import BOXES, MARKS
 
-# a cell by row and column; the cells and the sum of a cage, which may be any; lines with their numbers; rows of marks, and the places of their lines
-Cell = tuple[int, int]
+# the cells and the sum of a cage, which may be any; lines with their numbers; rows of marks, and the places of their lines
 Cage = tuple[list[Cell], Optional[int]]
 Block = list[tuple[int, str]]
 Square = tuple[list[list[str]], Optional[list[int]]]

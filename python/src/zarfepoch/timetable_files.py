@@ -13,10 +13,9 @@ from collections.abc import Callable, Iterator
 from dataclasses import dataclass, field
 from typing import Optional
 
-from .cover_files import shown
 from .name_texts import as_seen, hint_alike, hint_slips, want_one_spelling
 from .puzzle_texts import read_text, refuse
-from .weeks import bare, day_of, Periods, want_joined, WEEKDAYS
+from .weeks import Periods, want_joined, WEEKDAYS
 
 WANTED, NEEDED = ("lesson", "teacher", "class", "rooms", "periods"), ("lesson", "teacher", "class")
 OTHER = ("times", "length", "a_day", "apart", "fixed", "after", "note")

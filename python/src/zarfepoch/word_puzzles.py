@@ -8,13 +8,12 @@ from collections import Counter
 from collections.abc import Iterable, Sequence
 from typing import Optional
 
-from .cells import Cell, cell_names
+from .cells import Cell, cell_names, cell_words
 from .command_ends import complain, stop
 from .cover_files import MAX_ITEMS, MAX_OPTIONS
 from .fault_words import plural
 from .limits import check_count, Refused
 from .name_texts import names_in
-from .picture_base import cell_words
 from .puzzle_texts import called, Change, Lists, no_cover, Puzzle, refuse, rows_of
 
 
