@@ -1,13 +1,13 @@
-"""How commands ask the program for an answer."""
+"""How the program is asked for a timetable: where a plan is kept, by short searches first, in which ever more of its lessons may move."""
 from __future__ import annotations
 
 import itertools
 import random
-import subprocess
 import time
 from collections.abc import Iterator
-from typing import NamedTuple, Optional
+from typing import Optional
 
+from .programs import answered, Answered, asked
 from .timetables import Timetable
 
 # a search in which some lessons may move gets so many visits before others may
@@ -16,24 +16,6 @@ TRY_VISITS = 2_000
 TRY_SECONDS = 20.0
 # so many choices of lessons that may move are tried before more of them may, or fewer, one at least, where they take more than this part of the time
 CHOICES, SHARE = 30, 1 / 20
-
-
-class Answered(NamedTuple):
-    """The program's exit status, what it wrote, and what it said on standard error."""
-    status: int
-    text: bytes
-    why: str
-
-
-def asked(program: str, words: list[str], text: bytes) -> Answered:
-    """What the program answers to a problem on its standard input; an OSError where it can't be run."""
-    ran = subprocess.run([program, *words], input=text, capture_output=True)
-    return Answered(ran.returncode, ran.stdout, ran.stderr.decode(errors="replace").strip())
-
-
-def answered(program: str, text: bytes, seconds: Optional[float] = None) -> Answered:
-    """The answer to a problem, within so many seconds if they are told."""
-    return asked(program, ["answer", "-", *(["--seconds", str(max(1, round(seconds)))] if seconds else [])], text)
 
 
 def shortly(program: str, timetable: Timetable) -> Answered:

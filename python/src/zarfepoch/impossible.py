@@ -14,7 +14,7 @@ from collections.abc import Iterator, Sequence
 from dataclasses import replace
 from typing import NamedTuple, Optional
 
-from .answers import answered
+from .programs import answered
 from .timetable_files import Lesson
 from .timetable_rules import rule_words, School
 from .timetable_steps import named_lesson

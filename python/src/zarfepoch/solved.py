@@ -43,7 +43,7 @@ from typing import Optional
 
 from .all_covers import Covers
 from .another import free_name, others_of
-from .answers import Answered, answered, planned, TRY_SECONDS
+from .answers import planned, TRY_SECONDS
 from .command_ends import complain, stop
 from .command_words import as_called, parser_of
 from .cover_files import Problem, read_audited, read_problem
@@ -57,7 +57,7 @@ from .mistyped import SECONDS as CHANGE_SECONDS, told_changes
 from .picture_base import Kind
 from .picture_kinds import picture_of
 from .problems import Asked
-from .programs import find_program, own_words
+from .programs import answered, Answered, find_program, own_words
 from .puzzle_texts import Change, PlainlyNone, Puzzle
 from .search_parts import Tree
 from .svg_paper import Paper
