@@ -10,10 +10,10 @@ import time
 from collections.abc import Sequence
 from typing import Optional
 
-from .another import free_name, others_of
 from .cover_files import read_audited, read_problem
 from .fault_words import plural
 from .limits import Refused
+from .other_covers import free_name, others_of
 from .programs import answered
 from .puzzle_texts import Change, PlainlyNone, Puzzle
 from .word_puzzles import NoSolution

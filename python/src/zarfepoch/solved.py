@@ -42,7 +42,6 @@ from collections.abc import Iterator
 from typing import Optional
 
 from .all_covers import Covers
-from .another import free_name, others_of
 from .answers import planned, TRY_SECONDS
 from .command_ends import complain, stop
 from .command_words import as_called, parser_of
@@ -54,6 +53,7 @@ from .fault_words import plural
 from .impossible import core_of, core_words
 from .kinds import kinds_listed, kinds_of, problems_of
 from .mistyped import SECONDS as CHANGE_SECONDS, told_changes
+from .other_covers import free_name, others_of
 from .picture_base import Kind
 from .picture_kinds import picture_of
 from .problems import Asked
