@@ -25,7 +25,7 @@ from .cover_files import MAX_COLOURS, MAX_ITEMS, MAX_OCCURRENCES, MAX_OPTIONS, A
 from .cover_files import is_comment, lines_of, Problem, read_answer, read_problem, refusal, shown
 from .even_room import any_reason
 from .fault_words import answer_fault_words, fault_words, grouped, listed, looks, plural, quoted
-from .full_names import named_numbers
+from .full_names import told_lines
 from .programs import known_program
 from .whole_files import TooLarge, Unreadable, read_bytes
 
@@ -348,8 +348,7 @@ def explain(text: bytes, answer_text: Optional[bytes] = None) -> tuple[list[str]
     lines += remarks + list(explain_good(problem, text))
     if answer:
         lines += list(explain_answer(problem, answer))
-    lines += named_numbers(list(map(shown, problem.comments)), list(map(shown, problem.items)), lines)
-    return lines, not (answer and (answer.faults or (verdict(problem, answer) or "right") != "right"))
+    return told_lines(problem, lines), not (answer and (answer.faults or (verdict(problem, answer) or "right") != "right"))
 
 
 def main(words: Optional[Sequence[str]] = None) -> int:

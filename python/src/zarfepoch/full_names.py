@@ -7,6 +7,8 @@ from __future__ import annotations
 
 import re
 
+from .cover_files import Problem, shown
+
 
 def full_names(comments: list[str]) -> dict[str, str]:
     """The names by their numbers, of comments as texts that begin with their bar."""
@@ -34,3 +36,8 @@ def named_numbers(comments: list[str], items: list[str], lines: list[str]) -> li
     words = {word.strip("'(),:;") for line in lines for word in line.split()} if names else set()
     found = [parted(names, item) for item in items if item in words]
     return [f"{number} means {names[number]}" for number in dict.fromkeys(number for number, _ in filter(None, found))]
+
+
+def told_lines(problem: Problem, lines: list[str]) -> list[str]:
+    """Lines for readers, and behind them what numbers in them mean."""
+    return lines + named_numbers(list(map(shown, problem.comments)), list(map(shown, problem.items)), lines)

@@ -10,7 +10,8 @@ from typing import Optional
 from . import number_pictures
 from .board_pictures import Layers, Tiling
 from .cells import Cell, cell_of, known_cell
-from .cover_files import Option, Problem
+from .cover_files import Option, Problem, shown
+from .cover_reason import Named
 from .full_names import full_names
 from .grid_pictures import Kakuro, Nonogram, Stars, WHITE, Words
 from .picture_base import CELL, draw_lines, Kind, known_colour, Names
@@ -374,3 +375,14 @@ def picture_of(problem: Problem, chosen: list[Option], is_none: bool) -> Kind:
     kinds = (kind(problem, chosen, is_none) for kind in KINDS if kind.with_colours in (None, bool(problem.colours)))
     known = next((kind for kind in kinds if kind.is_known()), None)
     return known or Plain(problem, chosen, is_none)
+
+
+def in_words(problem: Problem) -> Named:
+    """What items are called where the kind of the problem is known by their names; else their names."""
+    picture = picture_of(problem, [], True)
+
+    def named(name: bytes) -> str:
+        return picture.item_words(shown(name))
+
+    plain: Named = shown
+    return plain if isinstance(picture, (Matching, Plain, Triples)) else named

@@ -1,15 +1,17 @@
-"""Plans of a timetable as files: as CSV that people read, and a folder with a picture and such a table for each class, teacher or room."""
+"""Plans of a timetable as files: as CSV that people read, and a folder with a picture and such a table for each class, teacher or room; and what command
+lines have for them."""
 from __future__ import annotations
 
 import os
 import re
+from argparse import ArgumentParser, Namespace
 from collections.abc import Iterable
 
 from .command_ends import stop
 from .picture_base import Kind
 from .svg_paper import Paper
 from .timetable_pictures import draw_plans, Timetable
-from .whole_files import put
+from .whole_files import put, write_out
 
 # the longest name of a file here, in bytes and without what stands behind the dot
 LONGEST = 200
@@ -57,3 +59,35 @@ def write_each(folder: str, picture: Kind, title: str) -> None:
             put(os.path.join(folder, f"{name}.csv"), timetable.grid([who]))
     except OSError as why:
         stop(f"{why.filename or folder} can't be written: {why.strerror}", 3)
+
+
+# ---- command lines
+
+def add_tables(parser: ArgumentParser) -> None:
+    """Adds what a command has for the plans of a timetable as files."""
+    parser.add_argument("--csv", metavar="PLAN.csv", help="of a timetable, where the plan is written as a table with a row for each time of a lesson")
+    parser.add_argument("--grid", metavar="WEEK.csv", help="of a timetable, where plans are written as a table that people read, with days across")
+    parser.add_argument("--out-dir", metavar="FOLDER", help="of a timetable, where each plan is written as a picture and a table of its own")
+
+
+def with_plans(picture: Kind, words: list[str]) -> Kind:
+    """The picture with the plans that are wanted; ends the script where it has none of these."""
+    if not words:
+        return picture
+    if not isinstance(picture, Timetable):
+        stop("--plan is for timetables, and this is none")
+    picture.plans = words
+    if picture.unknown_plans():
+        names = [picture.full(name) for name in picture.everybody()]
+        stop(f"--plan takes classes, teachers, rooms, all, or a name of {', '.join(names)}; '{picture.unknown_plans()[0]}' is none of these")
+    return picture
+
+
+def write_plans(given: Namespace, picture: Kind, title: str) -> None:
+    """Writes the plans of a timetable as the tables and into the folder that the command line wants."""
+    if given.csv:
+        write_out(given.csv, timetable_of(picture, "--csv").table())
+    if given.grid:
+        write_out(given.grid, grid_of(picture))
+    if given.out_dir:
+        write_each(given.out_dir, picture, title)

@@ -8,6 +8,8 @@ import sys
 import tempfile
 from typing import BinaryIO
 
+from .command_ends import stop
+
 # kept options take some 15 MB at the limits of a problem; a file of far more, by comments and options that are ignored, is not read here
 LARGEST = 1 << 26
 
@@ -85,6 +87,17 @@ def put_bytes(path: str, text: bytes) -> None:
     finally:
         with contextlib.suppress(OSError):
             os.remove(part)
+
+
+def write_out(path: str, text: str) -> None:
+    """Writes a picture or a table into a file, or on the standard output; ends the script where it can't be written."""
+    if path == "-":
+        sys.stdout.buffer.write(text.encode("utf-8"))
+        return
+    try:
+        put(path, text)
+    except OSError as why:
+        stop(f"{path} can't be written: {why.strerror}", 3)
 
 
 def umask() -> int:
