@@ -14,8 +14,8 @@ from __future__ import annotations
 import re
 import sys
 
-from .command_ends import run, stop
-from .command_words import parser_of
+from .command_line.ends import run, stop
+from .command_line.words import parser_of
 from .cover_files import lines_of, Problem, read_audited, read_problem, refusal
 from .other_covers import free_name, others_of, Words
 from .whole_files import read_bytes, Unreadable

@@ -6,7 +6,7 @@ import re
 from typing import Optional
 
 from .cells import Cell, names_of
-from .command_ends import stop
+from .command_line.ends import stop
 from .cover_files import MAX_OPTIONS
 from .limits import Refused
 from .name_texts import hint_alike, in_one_case, some_words, want_one_spelling

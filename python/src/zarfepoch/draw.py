@@ -31,8 +31,8 @@ from __future__ import annotations
 
 from argparse import Namespace
 
-from .command_ends import complain, run, stop
-from .command_words import parser_of
+from .command_line.ends import complain, run, stop
+from .command_line.words import parser_of
 from .cover_files import Answer, Problem, read_audited, read_problem, refusal, shown
 from .picture_kinds import picture_of
 from .plan_files import add_tables, with_plans, write_plans

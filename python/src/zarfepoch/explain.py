@@ -19,8 +19,8 @@ import contextlib
 from collections.abc import Iterator, Sequence
 from typing import Optional
 
-from .command_ends import run
-from .command_words import parser_of
+from .command_line.ends import run
+from .command_line.words import parser_of
 from .cover_files import MAX_COLOURS, MAX_ITEMS, MAX_OCCURRENCES, MAX_OPTIONS, Answer, Fault, Line, Word
 from .cover_files import is_comment, lines_of, Problem, read_answer, read_problem, refusal, shown
 from .even_room import any_reason

@@ -23,8 +23,8 @@ from collections.abc import Iterator
 from dataclasses import replace
 from typing import Optional
 
-from .command_ends import complain, run, stop
-from .command_words import parser_of
+from .command_line.ends import complain, run, stop
+from .command_line.words import parser_of
 from .examples import examples, FROM_TEXTS
 from .kinds import kinds_help, kinds_of, problems_of
 from .puzzle_texts import Puzzle, refuse

@@ -12,8 +12,8 @@ from dataclasses import dataclass
 from typing import Callable, Union
 
 from .coloured_sides import cubes, read_cubes, squares_on_board
-from .command_ends import stop
-from .command_words import as_called
+from .command_line.ends import stop
+from .command_line.words import as_called
 from .cover_files import shown
 from .graphs import matching, read_map, read_pairs
 from .grids import kakuro, star_battle

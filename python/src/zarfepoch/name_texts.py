@@ -6,7 +6,7 @@ import re
 import unicodedata
 from collections.abc import Callable, Iterable
 
-from .command_ends import complain
+from .command_line.ends import complain
 from .cover_files import shown
 from .puzzle_texts import called, refuse, rows_of
 

@@ -7,7 +7,7 @@ import re
 from argparse import ArgumentParser, Namespace
 from collections.abc import Iterable
 
-from .command_ends import stop
+from .command_line.ends import stop
 from .picture_base import Kind
 from .svg_paper import Paper
 from .timetable_pictures import draw_plans, Timetable

@@ -10,7 +10,7 @@ import collections
 import os
 from typing import Callable, Iterator, NamedTuple, NoReturn, Optional, Sequence
 
-from .command_ends import stop
+from .command_line.ends import stop
 from .cover_files import Option, Problem, read_problem, refusal
 from .whole_files import Unreadable, read_bytes
 

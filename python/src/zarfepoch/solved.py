@@ -43,8 +43,8 @@ from typing import Optional
 
 from .all_covers import Covers
 from .answers import planned, TRY_SECONDS
-from .command_ends import complain, stop
-from .command_words import as_called, parser_of
+from .command_line.ends import complain, stop
+from .command_line.words import as_called, parser_of
 from .cover_files import Problem, read_audited, read_problem
 from .errors import NoProgram, OutOfMemory, ProgramError, TimeIsUp
 from .even_room import any_reason

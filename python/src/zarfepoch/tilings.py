@@ -5,7 +5,7 @@ from __future__ import annotations
 from collections.abc import Collection, Iterator, Sequence
 
 from .cells import Cell, names_of, rectangle
-from .command_ends import stop
+from .command_line.ends import stop
 from .cover_files import MAX_ITEMS
 from .limits import check_count
 from .puzzle_texts import Puzzle

@@ -29,7 +29,7 @@ from collections.abc import Collection, Iterable, Iterator
 from dataclasses import dataclass, field, replace
 from typing import NamedTuple, Optional
 
-from .command_ends import complain
+from .command_line.ends import complain
 from .cover_files import MAX_ITEMS, MAX_NAME, MAX_OPTIONS
 from .puzzle_texts import Puzzle, refuse
 from .timetable_files import Lesson

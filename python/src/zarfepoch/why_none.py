@@ -25,8 +25,8 @@ import subprocess
 from collections.abc import Iterator
 from typing import Callable, Optional
 
-from .command_ends import complain, run, stop
-from .command_words import parser_of
+from .command_line.ends import complain, run, stop
+from .command_line.words import parser_of
 from .cover_files import Problem, read_problem, refusal, shown
 from .cover_reason import Named, Reason, clash
 from .draw_reason import reason_svg

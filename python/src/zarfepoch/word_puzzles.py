@@ -9,7 +9,7 @@ from collections.abc import Iterable, Sequence
 from typing import Optional
 
 from .cells import Cell, cell_names, cell_words
-from .command_ends import complain, stop
+from .command_line.ends import complain, stop
 from .cover_files import MAX_ITEMS, MAX_OPTIONS
 from .fault_words import plural
 from .limits import check_count, Refused

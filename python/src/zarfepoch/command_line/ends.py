@@ -7,7 +7,7 @@ import signal
 import sys
 from typing import Callable, NoReturn, Union
 
-from .command_words import as_called
+from .words import as_called
 
 Status = Union[int, str, None]
 
