@@ -22,7 +22,7 @@ import pytest
 
 from built import TOP
 from zarfepoch import examples, generate
-from zarfepoch.cover_files import read_problem
+from zarfepoch.files.cover_files import read_problem
 from zarfepoch.picture_kinds import picture_of
 from zarfepoch.svg_paper import folded, Paper, text_width
 

@@ -24,7 +24,7 @@ from plain_search import branching, read
 from plan_rules import choices, faults, Given, joined, read_plan, rows_of, Row, runs_in, times_of
 from planned_schools import planned, Tables
 from zarfepoch.answers import movable, planned as answered
-from zarfepoch.cover_files import read_answer, read_problem
+from zarfepoch.files.cover_files import read_answer, read_problem
 from zarfepoch.picture_kinds import picture_of
 from zarfepoch.timetable_pictures import Timetable
 from zarfepoch.timetable_plans import read_plan as kept_plan

@@ -8,8 +8,8 @@ import tempfile
 from typing import BinaryIO, Callable, Iterable, Iterator
 
 from .check_certificate import Checker, Wrong
+from .files.whole_files import Unreadable, read_bytes, umask
 from .joined_certificates import Joiner
-from .whole_files import Unreadable, read_bytes, umask
 
 
 class NotRight(Exception):

@@ -18,8 +18,8 @@ import itertools
 
 from .command_line.ends import run, stop
 from .command_line.words import parser_of
-from .cover_files import read_problem, refusal, shown
-from .whole_files import read_bytes, Unreadable
+from .files.cover_files import read_problem, refusal, shown
+from .files.whole_files import read_bytes, Unreadable
 
 # the words of each line
 Lines = list[list[bytes]]

@@ -7,7 +7,7 @@ from typing import Optional
 
 from .cells import Cell, names_of
 from .command_line.ends import stop
-from .cover_files import MAX_OPTIONS
+from .files.cover_files import MAX_OPTIONS
 from .limits import Refused
 from .name_texts import hint_alike, in_one_case, some_words, want_one_spelling
 from .puzzle_texts import Lists, Puzzle, refuse

@@ -33,12 +33,12 @@ from argparse import Namespace
 
 from .command_line.ends import complain, run, stop
 from .command_line.words import parser_of
-from .cover_files import Answer, Problem, read_audited, read_problem, refusal, shown
+from .files.cover_files import Answer, Problem, read_audited, read_problem, refusal, shown
+from .files.whole_files import Unreadable, read_bytes, write_out
 from .picture_kinds import picture_of
 from .plan_files import add_tables, with_plans, write_plans
 from .puzzle_texts import called
 from .svg_paper import Paper
-from .whole_files import Unreadable, read_bytes, write_out
 
 
 def title_of(text: bytes, file: str) -> str:

@@ -7,7 +7,7 @@ import os
 import re
 
 from .command_line.ends import stop
-from .cover_files import MAX_NAME
+from .files.cover_files import MAX_NAME
 from .name_texts import as_seen, hint_alike, in_one_case, some_words, want_one_spelling
 from .puzzle_texts import Change, Puzzle, refuse
 

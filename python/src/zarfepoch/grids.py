@@ -8,8 +8,8 @@ from collections.abc import Iterable, Iterator
 from typing import Optional
 
 from .cells import Cell, cell_names, cell_words
-from .cover_files import MAX_OCCURRENCES, MAX_OPTIONS
-from .fault_words import plural
+from .files.cover_files import MAX_OCCURRENCES, MAX_OPTIONS
+from .files.fault_words import plural
 from .name_texts import names_in
 from .puzzle_texts import blocks_of, Change, no_cover, Puzzle, refuse
 from .sudokus import cells_by_letter, letters_of, sums_of_digits, want_whole

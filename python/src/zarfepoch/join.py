@@ -27,11 +27,11 @@ from typing import NamedTuple, Optional
 from .certified_parts import NotRight, body_of, join_certificates, kind_of
 from .command_line.ends import complain, run, stop
 from .command_line.words import parser_of
-from .cover_files import Answer, lines_of, refusal, shown
+from .files.cover_files import Answer, lines_of, refusal, shown
+from .files.whole_files import Unreadable, read_bytes
 from .joined_certificates import JOINERS, PartText
 from .search_parts import (LIST, MOST_PARTS, WHOLE, Prefix, Split, Tree, answer_name, certificate_name, cover_text, list_text, part_name, path_in,
                            read_tree, split, texts_of)
-from .whole_files import Unreadable, read_bytes
 
 # so many faults are named; of the others only the number is given
 MOST_NAMED = 20

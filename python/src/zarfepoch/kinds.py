@@ -14,7 +14,7 @@ from typing import Callable, Union
 from .coloured_sides import cubes, read_cubes, squares_on_board
 from .command_line.ends import stop
 from .command_line.words import as_called
-from .cover_files import shown
+from .files.cover_files import shown
 from .graphs import matching, read_map, read_pairs
 from .grids import kakuro, star_battle
 from .kind_arguments import (Argument, BOARD, BORDER, BOXES, COLORS, DIAGONALS, file, HYPER, IGNORE_CASE, KEEP, LINES_ALIKE, NO_FLIPS, number,

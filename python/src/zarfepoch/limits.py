@@ -4,7 +4,7 @@ from __future__ import annotations
 import os
 import re
 
-from .cover_files import MAX_COLOURS, MAX_ITEMS, MAX_NAME, MAX_OCCURRENCES, MAX_OPTIONS
+from .files.cover_files import MAX_COLOURS, MAX_ITEMS, MAX_NAME, MAX_OCCURRENCES, MAX_OPTIONS
 from .puzzle_texts import Puzzle
 
 

@@ -10,8 +10,8 @@ import time
 from collections.abc import Sequence
 from typing import Optional
 
-from .cover_files import read_audited, read_problem
-from .fault_words import plural
+from .files.cover_files import read_audited, read_problem
+from .files.fault_words import plural
 from .limits import Refused
 from .other_covers import free_name, others_of
 from .programs import answered

@@ -7,7 +7,7 @@ import unicodedata
 from collections.abc import Callable, Iterable
 
 from .command_line.ends import complain
-from .cover_files import shown
+from .files.cover_files import shown
 from .puzzle_texts import called, refuse, rows_of
 
 # letters whose marks are part of them, and the vowels that some write with an e behind in place of two dots

@@ -8,8 +8,8 @@ from collections.abc import Iterator, Sequence
 from typing import Optional
 
 from .cells import cell_names
-from .cover_files import MAX_OCCURRENCES, MAX_OPTIONS
-from .fault_words import plural
+from .files.cover_files import MAX_OCCURRENCES, MAX_OPTIONS
+from .files.fault_words import plural
 from .limits import Refused
 from .puzzle_texts import blocks_of, Change, Lists, no_cover, Puzzle, refuse
 

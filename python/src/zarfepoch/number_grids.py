@@ -9,8 +9,8 @@ from collections import Counter
 from collections.abc import Iterator
 
 from .cells import Cell, cell_names, cell_words
-from .cover_files import MAX_OPTIONS
-from .fault_words import plural, with_article
+from .files.cover_files import MAX_OPTIONS
+from .files.fault_words import plural, with_article
 from .name_texts import names_in
 from .puzzle_texts import blocks_of, Change, no_cover, Puzzle, refuse, rows_of
 from .sudokus import cells_by_letter, EMPTY, letters_of, want_whole

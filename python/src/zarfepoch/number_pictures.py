@@ -5,7 +5,7 @@ import itertools
 import re
 
 from .cells import Cell, cell_of, cell_words, known_cell
-from .fault_words import with_article
+from .files.fault_words import with_article
 from .grid_pictures import line_words, WHITE
 from .picture_base import CELL, Kind, LARGEST
 from .svg_paper import ACCENT, Board, FAINT, FILLS, INK, Paper

@@ -7,7 +7,7 @@ from collections.abc import Iterable
 from typing import Optional
 
 from .cells import cell_of, cell_words
-from .cover_files import Option, Problem, shown
+from .files.cover_files import Option, Problem, shown
 from .svg_paper import folded, MARGIN, Paper, WIDEST
 
 # the names of an option

@@ -10,9 +10,9 @@ from typing import Optional
 from . import number_pictures
 from .board_pictures import Layers, Tiling
 from .cells import Cell, cell_of, known_cell
-from .cover_files import Option, Problem, shown
 from .cover_reason import Named
-from .full_names import full_names
+from .files.cover_files import Option, Problem, shown
+from .files.full_names import full_names
 from .grid_pictures import Kakuro, Nonogram, Stars, WHITE, Words
 from .picture_base import CELL, draw_lines, Kind, known_colour, Names
 from .planar import places

@@ -11,8 +11,8 @@ import os
 import re
 from collections.abc import Iterable
 
-from .cover_files import MAX_ITEMS
-from .fault_words import plural
+from .files.cover_files import MAX_ITEMS
+from .files.fault_words import plural
 from .name_texts import names_in
 from .puzzle_texts import blocks_of, no_cover, Puzzle, refuse
 from .turns import Cell, layers_of, minus, orientations

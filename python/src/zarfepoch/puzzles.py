@@ -4,7 +4,7 @@ from __future__ import annotations
 import itertools
 import math
 
-from .cover_files import MAX_ITEMS, MAX_OPTIONS
+from .files.cover_files import MAX_ITEMS, MAX_OPTIONS
 from .limits import check_count
 from .puzzle_texts import Lists, Puzzle
 

@@ -45,11 +45,12 @@ from .all_covers import Covers
 from .answers import planned, TRY_SECONDS
 from .command_line.ends import complain, stop
 from .command_line.words import as_called, parser_of
-from .cover_files import Problem, read_audited, read_problem
 from .errors import NoProgram, OutOfMemory, ProgramError, TimeIsUp
 from .even_room import any_reason
-from .fault_words import plural
-from .full_names import told_lines
+from .files.cover_files import Problem, read_audited, read_problem
+from .files.fault_words import plural
+from .files.full_names import told_lines
+from .files.whole_files import put, write_out
 from .impossible import core_of, core_words
 from .kinds import kinds_listed, kinds_of, problems_of
 from .mistyped import SECONDS as CHANGE_SECONDS, told_changes
@@ -65,7 +66,6 @@ from .svg_paper import Paper
 from .timetable_plans import Plan, read_plan
 from .timetables import Timetable, note_size
 from .weeks import in_order
-from .whole_files import put, write_out
 
 # a lesson by its title and its classes, in a period
 Time = tuple[tuple[str, frozenset[str]], str]

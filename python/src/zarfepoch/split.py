@@ -24,9 +24,9 @@ from typing import Iterable
 
 from .command_line.ends import run, stop
 from .command_line.words import as_called, number_from_one, parser_of
-from .fault_words import plural
+from .files.fault_words import plural
+from .files.whole_files import umask
 from .search_parts import LIST, MOST_PARTS, WHOLE, Split, list_text, part_name, path_in, read_tree, split, texts_of
-from .whole_files import umask
 
 
 def number_of_parts(text: str) -> int:

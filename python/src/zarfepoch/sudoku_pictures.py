@@ -6,7 +6,7 @@ import re
 
 from .boxes import BOXES
 from .cells import Cell
-from .fault_words import with_article
+from .files.fault_words import with_article
 from .picture_base import CELL, Kind, Names
 from .svg_paper import ACCENT, Board, INK, Paper
 from .terminal_text import on_right, widest

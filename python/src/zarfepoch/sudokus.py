@@ -18,7 +18,7 @@ from typing import NoReturn, Optional
 
 from .boxes import BOXES, MARKS
 from .cells import Cell, cell_words, is_connected
-from .fault_words import plural
+from .files.fault_words import plural
 from .name_texts import names_in
 from .puzzle_texts import blocks_of, Change, no_cover, Puzzle, read_text, refuse, TYPED
 

@@ -6,7 +6,7 @@ from collections.abc import Collection, Iterator, Sequence
 
 from .cells import Cell, names_of, rectangle
 from .command_line.ends import stop
-from .cover_files import MAX_ITEMS
+from .files.cover_files import MAX_ITEMS
 from .limits import check_count
 from .puzzle_texts import Puzzle
 

@@ -9,8 +9,8 @@ import re
 import unicodedata
 from collections.abc import Callable, Iterable, Iterator, Sequence
 
-from .cover_files import Option, Problem
-from .full_names import full_names
+from .files.cover_files import Option, Problem
+from .files.full_names import full_names
 from .picture_base import Kind, Names, without_rules
 from .svg_paper import BACKGROUND, draw_table, FAINT, FILLS, folded, INK, MARGIN, Paper, table_text, text_width, WIDEST
 from .weeks import day_and_number, in_week, natural

@@ -10,7 +10,7 @@ from collections.abc import Iterable, Iterator
 from dataclasses import dataclass, replace, field
 from typing import Optional
 
-from .cover_files import shown
+from .files.cover_files import shown
 from .name_texts import loose
 from .puzzle_texts import refuse
 from .timetable_files import Lesson, number_in, read_table, Table

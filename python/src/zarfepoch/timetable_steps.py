@@ -8,7 +8,7 @@ from dataclasses import dataclass, field
 from typing import NamedTuple, NoReturn, Optional
 
 from .always_busy import Shortage, always_busy
-from .fault_words import plural
+from .files.fault_words import plural
 from .puzzle_texts import no_cover, refuse
 from .timetable_files import Lesson, Together
 from .timetable_rules import Rule, rule_words, School

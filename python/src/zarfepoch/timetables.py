@@ -30,7 +30,7 @@ from dataclasses import dataclass, field, replace
 from typing import NamedTuple, Optional
 
 from .command_line.ends import complain
-from .cover_files import MAX_ITEMS, MAX_NAME, MAX_OPTIONS
+from .files.cover_files import MAX_ITEMS, MAX_NAME, MAX_OPTIONS
 from .puzzle_texts import Puzzle, refuse
 from .timetable_files import Lesson
 from .timetable_plans import MOVED, Plan, preference, read_plan

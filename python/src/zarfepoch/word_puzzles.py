@@ -10,8 +10,8 @@ from typing import Optional
 
 from .cells import Cell, cell_names, cell_words
 from .command_line.ends import complain, stop
-from .cover_files import MAX_ITEMS, MAX_OPTIONS
-from .fault_words import plural
+from .files.cover_files import MAX_ITEMS, MAX_OPTIONS
+from .files.fault_words import plural
 from .limits import check_count, Refused
 from .name_texts import names_in
 from .puzzle_texts import called, Change, Lists, no_cover, Puzzle, refuse, rows_of

@@ -8,7 +8,7 @@ import sys
 import tempfile
 from typing import BinaryIO
 
-from .command_line.ends import stop
+from ..command_line.ends import stop
 
 # kept options take some 15 MB at the limits of a problem; a file of far more, by comments and options that are ignored, is not read here
 LARGEST = 1 << 26
