@@ -17,7 +17,7 @@ HERE = os.path.dirname(os.path.abspath(__file__))
 sys.path.insert(0, os.path.join(HERE, "..", "trials"))
 from built import parser_of, stop  # noqa: E402
 from problems import put  # noqa: E402
-from zarfepoch.cells import rectangle  # noqa: E402
+from zarfepoch.boards.cells import rectangle  # noqa: E402
 from zarfepoch.coloured_sides import squares  # noqa: E402
 from zarfepoch.puzzle_texts import Puzzle  # noqa: E402
 from zarfepoch.puzzles import langford_pairs  # noqa: E402

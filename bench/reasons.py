@@ -26,7 +26,7 @@ sys.path.insert(0, os.path.join(HERE, "..", "trials"))
 from built import SOLVE_CLI, TOP, number_from_one, parser_of, stop, want_program  # noqa: E402
 import measured  # noqa: E402
 from problems import put, straight  # noqa: E402
-from zarfepoch.cells import names_of, rectangle  # noqa: E402
+from zarfepoch.boards.cells import names_of, rectangle  # noqa: E402
 from zarfepoch.puzzle_texts import Puzzle  # noqa: E402
 from zarfepoch.puzzles import langford_pairs, triples  # noqa: E402
 from zarfepoch.tilings import TETROMINOES, dominoes, placements  # noqa: E402

@@ -5,7 +5,7 @@ from __future__ import annotations
 import re
 from typing import Optional
 
-from .cells import Cell, names_of
+from .boards.cells import Cell, names_of
 from .command_line.ends import stop
 from .files.cover_files import MAX_OPTIONS
 from .limits import Refused

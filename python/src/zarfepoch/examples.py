@@ -3,7 +3,7 @@ from __future__ import annotations
 
 from collections.abc import Iterator
 
-from .cells import rectangle
+from .boards.cells import rectangle
 from .coloured_sides import cubes, squares
 from .graphs import coloring
 from .nonograms import nonogram

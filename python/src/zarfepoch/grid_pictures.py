@@ -4,7 +4,7 @@ from __future__ import annotations
 import itertools
 import re
 
-from .cells import Cell, cell_of, known_cell
+from .boards.cells import Cell, cell_of, known_cell
 from .picture_base import CELL, Kind, LARGEST, Names
 from .svg_paper import ACCENT, Board, FAINT, INK, Paper
 from .terminal_text import on_left, widest

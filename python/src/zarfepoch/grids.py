@@ -7,7 +7,7 @@ import re
 from collections.abc import Iterable, Iterator
 from typing import Optional
 
-from .cells import Cell, cell_names, cell_words
+from .boards.cells import Cell, cell_names, cell_words
 from .files.cover_files import MAX_OCCURRENCES, MAX_OPTIONS
 from .files.fault_words import plural
 from .name_texts import names_in

@@ -7,7 +7,7 @@ import re
 from collections.abc import Iterator, Sequence
 from typing import Optional
 
-from .cells import cell_names
+from .boards.cells import cell_names
 from .files.cover_files import MAX_OCCURRENCES, MAX_OPTIONS
 from .files.fault_words import plural
 from .limits import Refused

@@ -8,7 +8,7 @@ import re
 from collections import Counter
 from collections.abc import Iterator
 
-from .cells import Cell, cell_names, cell_words
+from .boards.cells import Cell, cell_names, cell_words
 from .files.cover_files import MAX_OPTIONS
 from .files.fault_words import plural, with_article
 from .name_texts import names_in

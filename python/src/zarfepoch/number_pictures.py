@@ -4,7 +4,7 @@ from __future__ import annotations
 import itertools
 import re
 
-from .cells import Cell, cell_of, cell_words, known_cell
+from .boards.cells import Cell, cell_of, cell_words, known_cell
 from .files.fault_words import with_article
 from .grid_pictures import line_words, WHITE
 from .picture_base import CELL, Kind, LARGEST

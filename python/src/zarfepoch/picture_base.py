@@ -6,7 +6,7 @@ import re
 from collections.abc import Iterable
 from typing import Optional
 
-from .cells import cell_of, cell_words
+from .boards.cells import cell_of, cell_words
 from .files.cover_files import Option, Problem, shown
 from .svg_paper import folded, MARGIN, Paper, WIDEST
 

@@ -9,7 +9,7 @@ from typing import Optional
 
 from . import number_pictures
 from .board_pictures import Layers, Tiling
-from .cells import Cell, cell_of, known_cell
+from .boards.cells import Cell, cell_of, known_cell
 from .cover_reason import Named
 from .files.cover_files import Option, Problem, shown
 from .files.full_names import full_names

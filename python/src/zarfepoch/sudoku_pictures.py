@@ -4,8 +4,8 @@ from __future__ import annotations
 import functools
 import re
 
-from .boxes import BOXES
-from .cells import Cell
+from .boards.boxes import BOXES
+from .boards.cells import Cell
 from .files.fault_words import with_article
 from .picture_base import CELL, Kind, Names
 from .svg_paper import ACCENT, Board, INK, Paper

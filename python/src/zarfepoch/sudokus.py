@@ -16,8 +16,8 @@ from collections import Counter
 from collections.abc import Iterable, Iterator, Sequence
 from typing import NoReturn, Optional
 
-from .boxes import BOXES, MARKS
-from .cells import Cell, cell_words, is_connected
+from .boards.boxes import BOXES, MARKS
+from .boards.cells import Cell, cell_words, is_connected
 from .files.fault_words import plural
 from .name_texts import names_in
 from .puzzle_texts import blocks_of, Change, no_cover, Puzzle, read_text, refuse, TYPED

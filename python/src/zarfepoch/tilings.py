@@ -4,7 +4,7 @@ from __future__ import annotations
 
 from collections.abc import Collection, Iterator, Sequence
 
-from .cells import Cell, names_of, rectangle
+from .boards.cells import Cell, names_of, rectangle
 from .command_line.ends import stop
 from .files.cover_files import MAX_ITEMS
 from .limits import check_count

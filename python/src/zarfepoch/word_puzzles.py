@@ -8,7 +8,7 @@ from collections import Counter
 from collections.abc import Iterable, Sequence
 from typing import Optional
 
-from .cells import Cell, cell_names, cell_words
+from .boards.cells import Cell, cell_names, cell_words
 from .command_line.ends import complain, stop
 from .files.cover_files import MAX_ITEMS, MAX_OPTIONS
 from .files.fault_words import plural
