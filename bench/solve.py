@@ -31,7 +31,7 @@ from built import is_right, number_from_one, parser_of, SOLVE_CLI, stop, want_pr
 from problems import put  # noqa: E402
 from states import write_instances  # noqa: E402
 from zarfepoch import puzzles  # noqa: E402
-from zarfepoch.puzzle_texts import Puzzle  # noqa: E402
+from zarfepoch.texts.puzzles import Puzzle  # noqa: E402
 
 NAMES = ["langford-13", "langford-13-long", "torus-queens-15", "skewed", "skewed-long", "diamond", "pentominoes-3x20", "sudoku-hard", "mutilated-chessboard"]
 # nodes, workers

@@ -40,7 +40,7 @@ from typing import NamedTuple, Optional
 
 from built import SOLVE_CLI, TOP, number_from_one, parser_of, want_command, want_program
 from zarfepoch import puzzles
-from zarfepoch.puzzle_texts import Puzzle
+from zarfepoch.texts.puzzles import Puzzle
 
 LETTERS = "a b c d e f g\nc e\na d g\nb c f\na d f\nb g\nd e g\n"
 ANSWER = "cover 3\nc e\na d f\nb g\n"

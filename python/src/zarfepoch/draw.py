@@ -37,8 +37,8 @@ from .files.cover_files import Answer, Problem, read_audited, read_problem, refu
 from .files.whole_files import Unreadable, read_bytes, write_out
 from .picture_kinds import picture_of
 from .plan_files import add_tables, with_plans, write_plans
-from .puzzle_texts import called
 from .svg_paper import Paper
+from .texts.puzzles import called
 
 
 def title_of(text: bytes, file: str) -> str:

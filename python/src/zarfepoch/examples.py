@@ -7,9 +7,9 @@ from .boards.cells import rectangle
 from .coloured_sides import cubes, squares
 from .graphs import coloring
 from .nonograms import nonogram
-from .puzzle_texts import Puzzle
 from .puzzles import langford_pairs, queens, triples
 from .sudokus import sudoku_of
+from .texts.puzzles import Puzzle
 from .tilings import dominoes, PENTOMINOES, TETROMINOES, tiling
 from .word_puzzles import crossword, word_squares
 

@@ -28,7 +28,7 @@ from .command_line.words import parser_of
 from .examples import examples, FROM_TEXTS
 from .files.whole_files import put_bytes
 from .kinds import kinds_help, kinds_of, problems_of
-from .puzzle_texts import Puzzle, refuse
+from .texts.puzzles import Puzzle, refuse
 
 # where examples are in a clone, and the texts that they are made from
 EXAMPLES = os.path.join(os.path.dirname(os.path.abspath(__file__)), "..", "..", "..", "examples")

@@ -8,8 +8,8 @@ import re
 
 from .command_line.ends import stop
 from .files.cover_files import MAX_NAME
-from .name_texts import as_seen, hint_alike, in_one_case, some_words, want_one_spelling
-from .puzzle_texts import Change, Puzzle, refuse
+from .texts.names import as_seen, hint_alike, in_one_case, some_words, want_one_spelling
+from .texts.puzzles import Change, Puzzle, refuse
 
 # two names
 Pair = tuple[str, str]

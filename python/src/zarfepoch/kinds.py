@@ -19,13 +19,13 @@ from .graphs import matching, read_map, read_pairs
 from .grids import kakuro, star_battle
 from .kind_arguments import (Argument, BOARD, BORDER, BOXES, COLORS, DIAGONALS, file, HYPER, IGNORE_CASE, KEEP, LINES_ALIKE, NO_FLIPS, number,
                              PIECES, REPEAT, RULES, SEED, STARS, SUDOKU)
-from .limits import check_range, Refused
 from .nonograms import read_nonogram
 from .number_grids import binairo, dominosa, futoshiki, kenken, shikaku, tents
 from .pieces import filled_board
-from .puzzle_texts import MISTAKE, Puzzle, UNREADABLE
 from .puzzles import langford_pairs, queens, triples
 from .sudokus import is_typed, read_jigsaw, read_killer, read_sudoku
+from .texts.limits import check_range, Refused
+from .texts.puzzles import MISTAKE, Puzzle, UNREADABLE
 from .tilings import board_of, dominoes, PENTOMINOES, polyominoes, TETROMINOES
 from .timetables import read_timetables
 from .word_puzzles import read_crossword, read_words, word_squares

@@ -12,10 +12,10 @@ from typing import Optional
 
 from .files.cover_files import read_audited, read_problem
 from .files.fault_words import plural
-from .limits import Refused
 from .other_covers import free_name, others_of
 from .programs import answered
-from .puzzle_texts import Change, PlainlyNone, Puzzle
+from .texts.limits import Refused
+from .texts.puzzles import Change, PlainlyNone, Puzzle
 from .word_puzzles import NoSolution
 
 # so many seconds all changes together may take where no time is told, and each question about one, or a tenth of the time if that is more

@@ -5,8 +5,8 @@ import itertools
 import math
 
 from .files.cover_files import MAX_ITEMS, MAX_OPTIONS
-from .limits import check_count
-from .puzzle_texts import Lists, Puzzle
+from .texts.limits import check_count
+from .texts.puzzles import Lists, Puzzle
 
 
 def queens(n: int) -> Puzzle:

@@ -60,9 +60,9 @@ from .picture_kinds import in_words, picture_of
 from .plan_files import add_tables, with_plans, write_plans
 from .problems import Asked
 from .programs import answered, Answered, find_program, own_words
-from .puzzle_texts import Change, PlainlyNone, Puzzle
 from .search_parts import Tree
 from .svg_paper import Paper
+from .texts.puzzles import Change, PlainlyNone, Puzzle
 from .timetable_plans import Plan, read_plan
 from .timetables import Timetable, note_size
 from .weeks import in_order

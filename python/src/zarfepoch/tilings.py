@@ -7,8 +7,8 @@ from collections.abc import Collection, Iterator, Sequence
 from .boards.cells import Cell, names_of, rectangle
 from .command_line.ends import stop
 from .files.cover_files import MAX_ITEMS
-from .limits import check_count
-from .puzzle_texts import Puzzle
+from .texts.limits import check_count
+from .texts.puzzles import Puzzle
 
 # pieces by their names, as rows of x and dots
 Pieces = dict[str, list[str]]

@@ -5,7 +5,7 @@ import re
 from dataclasses import dataclass
 from typing import Optional
 
-from .puzzle_texts import refuse
+from .texts.puzzles import refuse
 from .timetable_files import read_table
 from .timetable_rules import School
 from .timetable_steps import Block, Hour, Step

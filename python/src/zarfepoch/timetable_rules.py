@@ -11,8 +11,8 @@ from dataclasses import dataclass, replace, field
 from typing import Optional
 
 from .files.cover_files import shown
-from .name_texts import loose
-from .puzzle_texts import refuse
+from .texts.names import loose
+from .texts.puzzles import refuse
 from .timetable_files import Lesson, number_in, read_table, Table
 from .weeks import day_and_number, day_of, in_order, told_periods
 

@@ -9,7 +9,7 @@ from typing import NamedTuple, NoReturn, Optional
 
 from .always_busy import Shortage, always_busy
 from .files.fault_words import plural
-from .puzzle_texts import no_cover, refuse
+from .texts.puzzles import no_cover, refuse
 from .timetable_files import Lesson, Together
 from .timetable_rules import Rule, rule_words, School
 from .weeks import day_and_number, day_of, in_order, in_week, told_periods

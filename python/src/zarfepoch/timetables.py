@@ -31,7 +31,7 @@ from typing import NamedTuple, Optional
 
 from .command_line.ends import complain
 from .files.cover_files import MAX_ITEMS, MAX_NAME, MAX_OPTIONS
-from .puzzle_texts import Puzzle, refuse
+from .texts.puzzles import Puzzle, refuse
 from .timetable_files import Lesson
 from .timetable_plans import MOVED, Plan, preference, read_plan
 from .timetable_rules import read_school, Rule, School

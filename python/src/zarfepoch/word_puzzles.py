@@ -12,9 +12,9 @@ from .boards.cells import Cell, cell_names, cell_words
 from .command_line.ends import complain, stop
 from .files.cover_files import MAX_ITEMS, MAX_OPTIONS
 from .files.fault_words import plural
-from .limits import check_count, Refused
-from .name_texts import names_in
-from .puzzle_texts import called, Change, Lists, no_cover, Puzzle, refuse, rows_of
+from .texts.limits import check_count, Refused
+from .texts.names import names_in
+from .texts.puzzles import called, Change, Lists, no_cover, Puzzle, refuse, rows_of
 
 
 class NoSolution(Exception):

@@ -8,7 +8,7 @@ from collections.abc import Iterable
 from dataclasses import dataclass, field, replace
 from typing import Callable, NoReturn
 
-from .command_line.ends import complain, stop
+from ..command_line.ends import complain, stop
 
 NO_COVER, MISTAKE, UNREADABLE = 1, 2, 3
 # what a puzzle is called that stands on the command line itself

@@ -4,8 +4,8 @@ from __future__ import annotations
 import os
 import re
 
-from .files.cover_files import MAX_COLOURS, MAX_ITEMS, MAX_NAME, MAX_OCCURRENCES, MAX_OPTIONS
-from .puzzle_texts import Puzzle
+from ..files.cover_files import MAX_COLOURS, MAX_ITEMS, MAX_NAME, MAX_OCCURRENCES, MAX_OPTIONS
+from .puzzles import Puzzle
 
 
 class Refused(Exception):

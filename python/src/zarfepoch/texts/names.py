@@ -6,9 +6,9 @@ import re
 import unicodedata
 from collections.abc import Callable, Iterable
 
-from .command_line.ends import complain
-from .files.cover_files import shown
-from .puzzle_texts import called, refuse, rows_of
+from ..command_line.ends import complain
+from ..files.cover_files import shown
+from .puzzles import called, refuse, rows_of
 
 # letters whose marks are part of them, and the vowels that some write with an e behind in place of two dots
 PLAIN = str.maketrans("\u00f8\u0142\u0111\u0131", "oldi")
