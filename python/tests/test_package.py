@@ -31,9 +31,9 @@ import zarfepoch
 from zarfepoch import Clique, Colored, Problem, Reason
 from zarfepoch.all_covers import Covers, Question
 from zarfepoch.commands import COMMANDS
-from zarfepoch.even_room import any_reason, even_room, greatest
 from zarfepoch.files.cover_files import read_problem
 from zarfepoch.problems import Asked
+from zarfepoch.reasons.even_room import any_reason, even_room, greatest
 from zarfepoch.search_parts import Prefix, Tree
 
 README = os.path.join(TOP, "python", "README.md")

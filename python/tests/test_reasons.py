@@ -23,8 +23,8 @@ import pytest
 from built import TOP
 from plain_search import read, search
 from zarfepoch import check_reason, puzzles
-from zarfepoch.cover_reason import Reason
 from zarfepoch.files.cover_files import read_problem
+from zarfepoch.reasons.cover_reason import Reason
 
 
 def why(text: str) -> tuple[int, bytes]:

@@ -21,13 +21,13 @@ from typing import Optional
 
 from .command_line.ends import run
 from .command_line.words import parser_of
-from .even_room import any_reason
 from .files.cover_files import MAX_COLOURS, MAX_ITEMS, MAX_OCCURRENCES, MAX_OPTIONS, Answer, Fault, Line, Word
 from .files.cover_files import is_comment, lines_of, Problem, read_answer, read_problem, refusal, shown
 from .files.fault_words import answer_fault_words, fault_words, grouped, listed, looks, plural, quoted
 from .files.full_names import told_lines
 from .files.whole_files import TooLarge, Unreadable, read_bytes
 from .programs import known_program
+from .reasons.even_room import any_reason
 
 SAYS = "the program says: "
 BY_SEARCH = "that there is no cover is decided by the program's search alone"

@@ -10,12 +10,12 @@ from typing import Optional
 from . import number_pictures
 from .board_pictures import Layers, Tiling
 from .boards.cells import Cell, cell_of, known_cell
-from .cover_reason import Named
 from .files.cover_files import Option, Problem, shown
 from .files.full_names import full_names
 from .grid_pictures import Kakuro, Nonogram, Stars, WHITE, Words
 from .picture_base import CELL, draw_lines, Kind, known_colour, Names
 from .planar import places
+from .reasons.cover_reason import Named
 from .sudoku_pictures import Sudoku
 from .svg_paper import ACCENT, BACKGROUND, FAINT, FILLS, INK, on_circle, Paper, Point, table_text, text_width, WIDEST
 from .terminal_text import centred, on_left, on_right, widest

@@ -46,7 +46,6 @@ from .answers import planned, TRY_SECONDS
 from .command_line.ends import complain, stop
 from .command_line.words import as_called, parser_of
 from .errors import NoProgram, OutOfMemory, ProgramError, TimeIsUp
-from .even_room import any_reason
 from .files.cover_files import Problem, read_audited, read_problem
 from .files.fault_words import plural
 from .files.full_names import told_lines
@@ -60,6 +59,7 @@ from .picture_kinds import in_words, picture_of
 from .plan_files import add_tables, with_plans, write_plans
 from .problems import Asked
 from .programs import answered, Answered, find_program, own_words
+from .reasons.even_room import any_reason
 from .search_parts import Tree
 from .svg_paper import Paper
 from .texts.puzzles import Change, PlainlyNone, Puzzle

@@ -27,15 +27,15 @@ from typing import Callable, Optional
 
 from .command_line.ends import complain, run, stop
 from .command_line.words import parser_of
-from .cover_reason import Named, Reason, clash
 from .draw_reason import reason_svg
-from .even_room import any_reason
 from .files.cover_files import Problem, read_problem, refusal, shown
 from .files.fault_words import listed, plural, quoted
 from .files.full_names import told_lines
 from .files.whole_files import Unreadable, read_bytes, write_out
 from .picture_kinds import in_words
 from .programs import is_program, known_program, missing_program
+from .reasons.cover_reason import Named, Reason, clash
+from .reasons.even_room import any_reason
 
 # the exit status and the first word of each answer
 NONE, COVER, SPENT, OUT_OF_MEMORY = (1, b"none"), (0, b"cover"), (4, b"no"), (5, b"")

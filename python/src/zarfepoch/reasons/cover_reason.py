@@ -16,9 +16,9 @@ from collections.abc import Callable, Iterable, Iterator
 from math import gcd
 from typing import Optional
 
-from .errors import TimeIsUp
-from .files.cover_files import Option, Problem, shown
-from .files.fault_words import listed, plural, quoted
+from ..errors import TimeIsUp
+from ..files.cover_files import Option, Problem, shown
+from ..files.fault_words import listed, plural, quoted
 
 # numbers by the names of their items; what items are called
 Amounts = dict[bytes, int]

@@ -13,9 +13,9 @@ from fractions import Fraction
 from math import lcm
 from typing import Optional
 
+from ..errors import TimeIsUp
+from ..files.cover_files import Problem
 from .cover_reason import found_reason, Reason
-from .errors import TimeIsUp
-from .files.cover_files import Problem
 
 # so many seconds items are counted where no time is told
 SECONDS = 2.0
