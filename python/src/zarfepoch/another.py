@@ -18,7 +18,7 @@ from .command_line.ends import run, stop
 from .command_line.words import parser_of
 from .files.cover_files import lines_of, Problem, read_audited, read_problem, refusal
 from .files.whole_files import read_bytes, Unreadable
-from .other_covers import free_name, others_of, Words
+from .search.other_covers import free_name, others_of, Words
 
 
 def without_others(text: bytes, other: bytes) -> bytes:

@@ -12,8 +12,8 @@ from typing import Optional
 
 from .files.cover_files import read_audited, read_problem
 from .files.fault_words import plural
-from .other_covers import free_name, others_of
 from .programs import answered
+from .search.other_covers import free_name, others_of
 from .texts.limits import Refused
 from .texts.puzzles import Change, PlainlyNone, Puzzle
 from .word_puzzles import NoSolution

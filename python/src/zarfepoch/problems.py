@@ -9,7 +9,6 @@ import time
 from collections.abc import Hashable, Iterable, Iterator, Mapping
 from typing import cast, NamedTuple, Optional, Union
 
-from .all_covers import Covers, Run
 from .errors import (
     ColoredPrimary, NoAnswer, OutOfMemory, ProblemError, ProgramError, RepeatedItem, TimeIsUp, TooLarge, UncleanAudit, UnknownItem, WrongNumber)
 from .files import cover_files
@@ -19,7 +18,8 @@ from .files.whole_files import put_bytes
 from .programs import find_program, own_words, tied
 from .reasons import cover_reason
 from .reasons.even_room import even_room
-from .search_parts import part_text, places_in, Prefix, Tree
+from .search.all_covers import Covers, Run
+from .search.parts import part_text, places_in, Prefix, Tree
 
 # the program takes a limit of at most a million seconds
 MOST_SECONDS = 999_999

@@ -41,7 +41,6 @@ from collections import Counter
 from collections.abc import Iterator
 from typing import Optional
 
-from .all_covers import Covers
 from .answers import planned, TRY_SECONDS
 from .command_line.ends import complain, stop
 from .command_line.words import as_called, parser_of
@@ -53,14 +52,15 @@ from .files.whole_files import put, write_out
 from .impossible import core_of, core_words
 from .kinds import kinds_listed, kinds_of, problems_of
 from .mistyped import SECONDS as CHANGE_SECONDS, told_changes
-from .other_covers import free_name, others_of
 from .picture_base import Kind
 from .picture_kinds import in_words, picture_of
 from .plan_files import add_tables, with_plans, write_plans
 from .problems import Asked
 from .programs import answered, Answered, find_program, own_words
 from .reasons.even_room import any_reason
-from .search_parts import Tree
+from .search.all_covers import Covers
+from .search.other_covers import free_name, others_of
+from .search.parts import Tree
 from .svg_paper import Paper
 from .texts.puzzles import Change, PlainlyNone, Puzzle
 from .timetable_plans import Plan, read_plan

@@ -8,7 +8,7 @@ from __future__ import annotations
 
 from typing import Iterable, Iterator, NamedTuple
 
-from .search_parts import Prefix, Split, Tree, items_left, places_in
+from .parts import Prefix, Split, Tree, items_left, places_in
 
 
 class PartText(NamedTuple):

@@ -14,9 +14,9 @@ import time
 from collections.abc import Generator
 from typing import Callable, Optional, Protocol
 
-from .errors import TimeIsUp
-from .programs import tied
-from .search_parts import Prefix, Tree
+from ..errors import TimeIsUp
+from ..programs import tied
+from .parts import Prefix, Tree
 
 # the options of a cover, by their places
 Cover = frozenset[int]

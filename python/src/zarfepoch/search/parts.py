@@ -10,9 +10,9 @@ import collections
 import os
 from typing import Callable, Iterator, NamedTuple, NoReturn, Optional, Sequence
 
-from .command_line.ends import stop
-from .files.cover_files import Option, Problem, read_problem, refusal
-from .files.whole_files import Unreadable, read_bytes
+from ..command_line.ends import stop
+from ..files.cover_files import Option, Problem, read_problem, refusal
+from ..files.whole_files import Unreadable, read_bytes
 
 WHOLE, LIST = "whole.dlx", "parts.txt"
 MOST_PARTS = 10_000

@@ -7,8 +7,8 @@ import shutil
 import tempfile
 from typing import BinaryIO, Callable, Iterable, Iterator
 
-from .check_certificate import Checker, Wrong
-from .files.whole_files import Unreadable, read_bytes, umask
+from ..check_certificate import Checker, Wrong
+from ..files.whole_files import Unreadable, read_bytes, umask
 from .joined_certificates import Joiner
 
 

@@ -7,8 +7,8 @@ from __future__ import annotations
 from collections.abc import Iterator
 from typing import Optional
 
-from .files.cover_files import MAX_COLOURS, MAX_ITEMS, MAX_OCCURRENCES, MAX_OPTIONS, Problem
-from .search_parts import places_in, size_of, Tree
+from ..files.cover_files import MAX_COLOURS, MAX_ITEMS, MAX_OCCURRENCES, MAX_OPTIONS, Problem
+from .parts import places_in, size_of, Tree
 
 # the words of an option
 Words = tuple[bytes, ...]
