@@ -27,7 +27,7 @@ from .sudokus import is_typed, read_jigsaw, read_killer, read_sudoku
 from .texts.limits import check_range, Refused
 from .texts.puzzles import MISTAKE, Puzzle, UNREADABLE
 from .tilings import board_of, dominoes, PENTOMINOES, polyominoes, TETROMINOES
-from .timetables import read_timetables
+from .timetables.problem import read_timetables
 from .word_puzzles import read_crossword, read_words, word_squares
 
 

@@ -41,7 +41,6 @@ from collections import Counter
 from collections.abc import Iterator
 from typing import Optional
 
-from .answers import planned, TRY_SECONDS
 from .command_line.ends import complain, stop
 from .command_line.words import as_called, parser_of
 from .errors import NoProgram, OutOfMemory, ProgramError, TimeIsUp
@@ -49,7 +48,6 @@ from .files.cover_files import Problem, read_audited, read_problem
 from .files.fault_words import plural
 from .files.full_names import told_lines
 from .files.whole_files import put, write_out
-from .impossible import core_of, core_words
 from .kinds import kinds_listed, kinds_of, problems_of
 from .mistyped import SECONDS as CHANGE_SECONDS, told_changes
 from .picture_base import Kind
@@ -63,9 +61,11 @@ from .search.other_covers import free_name, others_of
 from .search.parts import Tree
 from .svg_paper import Paper
 from .texts.puzzles import Change, PlainlyNone, Puzzle
-from .timetable_plans import Plan, read_plan
-from .timetables import Timetable, note_size
-from .weeks import in_order
+from .timetables.impossible import core_of, core_words
+from .timetables.planned import planned, TRY_SECONDS
+from .timetables.plans import Plan, read_plan
+from .timetables.problem import Timetable, note_size
+from .timetables.weeks import in_order
 
 # a lesson by its title and its classes, in a period
 Time = tuple[tuple[str, frozenset[str]], str]

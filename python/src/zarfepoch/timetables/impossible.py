@@ -14,11 +14,11 @@ from collections.abc import Iterator, Sequence
 from dataclasses import replace
 from typing import NamedTuple, Optional
 
-from .programs import answered
-from .timetable_files import Lesson
-from .timetable_rules import rule_words, School
-from .timetable_steps import named_lesson
-from .timetables import timetables
+from ..programs import answered
+from .problem import timetables
+from .rules import rule_words, School
+from .steps import named_lesson
+from .tables import Lesson
 from .weeks import told_periods
 
 # so many seconds a question about some rows may take

@@ -13,8 +13,8 @@ from collections.abc import Callable, Iterator
 from dataclasses import dataclass, field
 from typing import Optional
 
-from .texts.names import as_seen, hint_alike, hint_slips, want_one_spelling
-from .texts.puzzles import read_text, refuse
+from ..texts.names import as_seen, hint_alike, hint_slips, want_one_spelling
+from ..texts.puzzles import read_text, refuse
 from .weeks import Periods, want_joined, WEEKDAYS
 
 WANTED, NEEDED = ("lesson", "teacher", "class", "rooms", "periods"), ("lesson", "teacher", "class")

@@ -5,10 +5,10 @@ import re
 from dataclasses import dataclass
 from typing import Optional
 
-from .texts.puzzles import refuse
-from .timetable_files import read_table
-from .timetable_rules import School
-from .timetable_steps import Block, Hour, Step
+from ..texts.puzzles import refuse
+from .rules import School
+from .steps import Block, Hour, Step
+from .tables import read_table
 from .weeks import day_of, in_order, Periods
 
 COLUMNS, NEEDED = ("lesson", "teacher", "class", "rooms", "periods", "length", "note"), ("lesson", "class", "periods")

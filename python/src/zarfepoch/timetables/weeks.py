@@ -7,7 +7,7 @@ from collections import Counter
 from collections.abc import Iterable
 from typing import Optional
 
-from .texts.puzzles import refuse
+from ..texts.puzzles import refuse
 
 # the days of the week as they are written in some languages, in short and in full; a week begins with Monday
 SHORT = ["mon tue wed thu fri sat sun", "mo di mi do fr sa so", "mo tu we th fr sa su", "lun mar mer jeu ven sam dim",

@@ -7,8 +7,8 @@ import time
 from collections.abc import Iterator
 from typing import Optional
 
-from .programs import answered, Answered, asked
-from .timetables import Timetable
+from ..programs import answered, Answered, asked
+from .problem import Timetable
 
 # a search in which some lessons may move gets so many visits before others may
 TRY_VISITS = 2_000

@@ -10,10 +10,10 @@ from collections.abc import Iterable, Iterator
 from dataclasses import dataclass, replace, field
 from typing import Optional
 
-from .files.cover_files import shown
-from .texts.names import loose
-from .texts.puzzles import refuse
-from .timetable_files import Lesson, number_in, read_table, Table
+from ..files.cover_files import shown
+from ..texts.names import loose
+from ..texts.puzzles import refuse
+from .tables import Lesson, number_in, read_table, Table
 from .weeks import day_and_number, day_of, in_order, told_periods
 
 COLUMNS, NEEDED = ("who", "periods", "away", "a_day", "holes", "note"), ("who",)

@@ -7,11 +7,11 @@ from collections.abc import Iterable
 from dataclasses import dataclass, field
 from typing import NamedTuple, NoReturn, Optional
 
+from ..files.fault_words import plural
+from ..texts.puzzles import no_cover, refuse
 from .always_busy import Shortage, always_busy
-from .files.fault_words import plural
-from .texts.puzzles import no_cover, refuse
-from .timetable_files import Lesson, Together
-from .timetable_rules import Rule, rule_words, School
+from .rules import Rule, rule_words, School
+from .tables import Lesson, Together
 from .weeks import day_and_number, day_of, in_order, in_week, told_periods
 
 

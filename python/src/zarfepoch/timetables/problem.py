@@ -29,13 +29,13 @@ from collections.abc import Collection, Iterable, Iterator
 from dataclasses import dataclass, field, replace
 from typing import NamedTuple, Optional
 
-from .command_line.ends import complain
-from .files.cover_files import MAX_ITEMS, MAX_NAME, MAX_OPTIONS
-from .texts.puzzles import Puzzle, refuse
-from .timetable_files import Lesson
-from .timetable_plans import MOVED, Plan, preference, read_plan
-from .timetable_rules import read_school, Rule, School
-from .timetable_steps import all_periods, always, Block, blocks_of, by_days, Days, followers, Hour, hours_by_name, seats_of, Step, want_days
+from ..command_line.ends import complain
+from ..files.cover_files import MAX_ITEMS, MAX_NAME, MAX_OPTIONS
+from ..texts.puzzles import Puzzle, refuse
+from .plans import MOVED, Plan, preference, read_plan
+from .rules import read_school, Rule, School
+from .steps import all_periods, always, Block, blocks_of, by_days, Days, followers, Hour, hours_by_name, seats_of, Step, want_days
+from .tables import Lesson
 from .weeks import day_of, in_week
 
 # from so many options on their order is drawn by lot: a search that tries each lesson at Monday's first period first seldom ends
