@@ -35,8 +35,8 @@ from encodings_of_peers import formula_of, program_of  # noqa: E402
 from measured import ended, processor_seconds  # noqa: E402
 from problems import put, straight  # noqa: E402
 from zarfepoch.boards.cells import rectangle  # noqa: E402
+from zarfepoch.puzzles.tilings import dominoes  # noqa: E402
 from zarfepoch.texts.puzzles import Puzzle  # noqa: E402
-from zarfepoch.tilings import dominoes  # noqa: E402
 
 GREATEST = str(2 ** 64 - 1)
 BOARDS = (8, 10, 12, 14, 16, 18, 20)

@@ -21,9 +21,10 @@ from hypothesis import HealthCheck, given, settings, strategies as some
 import pytest
 
 from built import TOP
-from zarfepoch import examples, generate
+from zarfepoch import generate
 from zarfepoch.files.cover_files import read_problem
 from zarfepoch.picture_kinds import picture_of
+from zarfepoch.puzzles import examples
 from zarfepoch.svg_paper import folded, Paper, text_width
 
 EXAMPLES = os.path.join(TOP, "examples")

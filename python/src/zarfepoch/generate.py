@@ -25,9 +25,9 @@ from typing import Optional
 
 from .command_line.ends import complain, run, stop
 from .command_line.words import parser_of
-from .examples import examples, FROM_TEXTS
 from .files.whole_files import put_bytes
-from .kinds import kinds_help, kinds_of, problems_of
+from .puzzles.examples import examples, FROM_TEXTS
+from .puzzles.kinds import kinds_help, kinds_of, problems_of
 from .texts.puzzles import Puzzle, refuse
 
 # where examples are in a clone, and the texts that they are made from

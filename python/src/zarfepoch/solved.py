@@ -48,13 +48,13 @@ from .files.cover_files import Problem, read_audited, read_problem
 from .files.fault_words import plural
 from .files.full_names import told_lines
 from .files.whole_files import put, write_out
-from .kinds import kinds_listed, kinds_of, problems_of
-from .mistyped import SECONDS as CHANGE_SECONDS, told_changes
 from .picture_base import Kind
 from .picture_kinds import in_words, picture_of
 from .plan_files import add_tables, with_plans, write_plans
 from .problems import Asked
 from .programs import answered, Answered, find_program, own_words
+from .puzzles.kinds import kinds_listed, kinds_of, problems_of
+from .puzzles.mistyped import SECONDS as CHANGE_SECONDS, told_changes
 from .reasons.even_room import any_reason
 from .search.all_covers import Covers
 from .search.other_covers import free_name, others_of

@@ -7,12 +7,12 @@ import re
 from collections.abc import Iterable, Iterator
 from typing import Optional
 
-from .boards.cells import Cell, cell_names, cell_words
-from .files.cover_files import MAX_OCCURRENCES, MAX_OPTIONS
-from .files.fault_words import plural
+from ..boards.cells import Cell, cell_names, cell_words
+from ..files.cover_files import MAX_OCCURRENCES, MAX_OPTIONS
+from ..files.fault_words import plural
+from ..texts.names import names_in
+from ..texts.puzzles import blocks_of, Change, no_cover, Puzzle, refuse
 from .sudokus import cells_by_letter, letters_of, sums_of_digits, want_whole
-from .texts.names import names_in
-from .texts.puzzles import blocks_of, Change, no_cover, Puzzle, refuse
 
 # the sum below a black cell and the one on its right
 Clue = tuple[Optional[int], Optional[int]]

@@ -4,11 +4,11 @@ from __future__ import annotations
 
 from collections.abc import Collection, Iterator, Sequence
 
-from .boards.cells import Cell, names_of, rectangle
-from .command_line.ends import stop
-from .files.cover_files import MAX_ITEMS
-from .texts.limits import check_count
-from .texts.puzzles import Puzzle
+from ..boards.cells import Cell, names_of, rectangle
+from ..command_line.ends import stop
+from ..files.cover_files import MAX_ITEMS
+from ..texts.limits import check_count
+from ..texts.puzzles import Puzzle
 
 # pieces by their names, as rows of x and dots
 Pieces = dict[str, list[str]]

@@ -5,7 +5,7 @@ import argparse
 import re
 from typing import Any
 
-from .boards.cells import Cell
+from ..boards.cells import Cell
 
 
 class Argument:

@@ -11,24 +11,24 @@ from collections.abc import Sequence
 from dataclasses import dataclass
 from typing import Callable, Union
 
+from ..command_line.ends import stop
+from ..command_line.words import as_called
+from ..files.cover_files import shown
+from ..texts.limits import check_range, Refused
+from ..texts.puzzles import MISTAKE, Puzzle, UNREADABLE
+from ..timetables.problem import read_timetables
+from .arguments import (Argument, BOARD, BORDER, BOXES, COLORS, DIAGONALS, file, HYPER, IGNORE_CASE, KEEP, LINES_ALIKE, NO_FLIPS, number, PIECES,
+                        REPEAT, RULES, SEED, STARS, SUDOKU)
+from .by_number import langford_pairs, queens, triples
 from .coloured_sides import cubes, read_cubes, squares_on_board
-from .command_line.ends import stop
-from .command_line.words import as_called
-from .files.cover_files import shown
 from .graphs import matching, read_map, read_pairs
 from .grids import kakuro, star_battle
-from .kind_arguments import (Argument, BOARD, BORDER, BOXES, COLORS, DIAGONALS, file, HYPER, IGNORE_CASE, KEEP, LINES_ALIKE, NO_FLIPS, number,
-                             PIECES, REPEAT, RULES, SEED, STARS, SUDOKU)
 from .nonograms import read_nonogram
 from .number_grids import binairo, dominosa, futoshiki, kenken, shikaku, tents
 from .pieces import filled_board
-from .puzzles import langford_pairs, queens, triples
 from .sudokus import is_typed, read_jigsaw, read_killer, read_sudoku
-from .texts.limits import check_range, Refused
-from .texts.puzzles import MISTAKE, Puzzle, UNREADABLE
 from .tilings import board_of, dominoes, PENTOMINOES, polyominoes, TETROMINOES
-from .timetables.problem import read_timetables
-from .word_puzzles import read_crossword, read_words, word_squares
+from .words import read_crossword, read_words, word_squares
 
 
 @dataclass(frozen=True)

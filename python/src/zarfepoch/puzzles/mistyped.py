@@ -10,13 +10,13 @@ import time
 from collections.abc import Sequence
 from typing import Optional
 
-from .files.cover_files import read_audited, read_problem
-from .files.fault_words import plural
-from .programs import answered
-from .search.other_covers import free_name, others_of
-from .texts.limits import Refused
-from .texts.puzzles import Change, PlainlyNone, Puzzle
-from .word_puzzles import NoSolution
+from ..files.cover_files import read_audited, read_problem
+from ..files.fault_words import plural
+from ..programs import answered
+from ..search.other_covers import free_name, others_of
+from ..texts.limits import Refused
+from ..texts.puzzles import Change, PlainlyNone, Puzzle
+from .words import NoSolution
 
 # so many seconds all changes together may take where no time is told, and each question about one, or a tenth of the time if that is more
 SECONDS, QUESTION = 5.0, 1.0

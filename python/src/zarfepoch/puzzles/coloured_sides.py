@@ -5,12 +5,12 @@ from __future__ import annotations
 import re
 from typing import Optional
 
-from .boards.cells import Cell, names_of
-from .command_line.ends import stop
-from .files.cover_files import MAX_OPTIONS
-from .texts.limits import Refused
-from .texts.names import hint_alike, in_one_case, some_words, want_one_spelling
-from .texts.puzzles import Lists, Puzzle, refuse
+from ..boards.cells import Cell, names_of
+from ..command_line.ends import stop
+from ..files.cover_files import MAX_OPTIONS
+from ..texts.limits import Refused
+from ..texts.names import hint_alike, in_one_case, some_words, want_one_spelling
+from ..texts.puzzles import Lists, Puzzle, refuse
 
 # pieces by their names, each with the colours of its sides
 Pieces = dict[str, list[str]]

@@ -3,15 +3,15 @@ from __future__ import annotations
 
 from collections.abc import Iterator
 
-from .boards.cells import rectangle
+from ..boards.cells import rectangle
+from ..texts.puzzles import Puzzle
+from .by_number import langford_pairs, queens, triples
 from .coloured_sides import cubes, squares
 from .graphs import coloring
 from .nonograms import nonogram
-from .puzzles import langford_pairs, queens, triples
 from .sudokus import sudoku_of
-from .texts.puzzles import Puzzle
 from .tilings import dominoes, PENTOMINOES, TETROMINOES, tiling
-from .word_puzzles import crossword, word_squares
+from .words import crossword, word_squares
 
 SUDOKU = ["8........", "..36.....", ".7..9.2..", ".5...7...", "....457..", "...1...3.", "..1....68", "..85...1.", ".9....4.."]
 BORDERS = ["WA NT", "WA SA", "NT SA", "NT Q", "SA Q", "SA NSW", "SA V", "Q NSW", "NSW V"]

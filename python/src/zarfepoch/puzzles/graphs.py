@@ -6,10 +6,10 @@ import itertools
 import os
 import re
 
-from .command_line.ends import stop
-from .files.cover_files import MAX_NAME
-from .texts.names import as_seen, hint_alike, in_one_case, some_words, want_one_spelling
-from .texts.puzzles import Change, Puzzle, refuse
+from ..command_line.ends import stop
+from ..files.cover_files import MAX_NAME
+from ..texts.names import as_seen, hint_alike, in_one_case, some_words, want_one_spelling
+from ..texts.puzzles import Change, Puzzle, refuse
 
 # two names
 Pair = tuple[str, str]

@@ -4,9 +4,9 @@ from __future__ import annotations
 import itertools
 import math
 
-from .files.cover_files import MAX_ITEMS, MAX_OPTIONS
-from .texts.limits import check_count
-from .texts.puzzles import Lists, Puzzle
+from ..files.cover_files import MAX_ITEMS, MAX_OPTIONS
+from ..texts.limits import check_count
+from ..texts.puzzles import Lists, Puzzle
 
 
 def queens(n: int) -> Puzzle:

@@ -7,11 +7,11 @@ import re
 from collections.abc import Iterator, Sequence
 from typing import Optional
 
-from .boards.cells import cell_names
-from .files.cover_files import MAX_OCCURRENCES, MAX_OPTIONS
-from .files.fault_words import plural
-from .texts.limits import Refused
-from .texts.puzzles import blocks_of, Change, Lists, no_cover, Puzzle, refuse
+from ..boards.cells import cell_names
+from ..files.cover_files import MAX_OCCURRENCES, MAX_OPTIONS
+from ..files.fault_words import plural
+from ..texts.limits import Refused
+from ..texts.puzzles import blocks_of, Change, Lists, no_cover, Puzzle, refuse
 
 # the lengths of a line's blocks, None where they aren't known
 Blocks = Optional[list[int]]

@@ -16,11 +16,11 @@ from collections import Counter
 from collections.abc import Iterable, Iterator, Sequence
 from typing import NoReturn, Optional
 
-from .boards.boxes import BOXES, MARKS
-from .boards.cells import Cell, cell_words, is_connected
-from .files.fault_words import plural
-from .texts.names import names_in
-from .texts.puzzles import blocks_of, Change, no_cover, Puzzle, read_text, refuse, TYPED
+from ..boards.boxes import BOXES, MARKS
+from ..boards.cells import Cell, cell_words, is_connected
+from ..files.fault_words import plural
+from ..texts.names import names_in
+from ..texts.puzzles import blocks_of, Change, no_cover, Puzzle, read_text, refuse, TYPED
 
 # the cells and the sum of a cage, which may be any; lines with their numbers; rows of marks, and the places of their lines
 Cage = tuple[list[Cell], Optional[int]]

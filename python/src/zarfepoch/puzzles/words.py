@@ -8,13 +8,13 @@ from collections import Counter
 from collections.abc import Iterable, Sequence
 from typing import Optional
 
-from .boards.cells import Cell, cell_names, cell_words
-from .command_line.ends import complain, stop
-from .files.cover_files import MAX_ITEMS, MAX_OPTIONS
-from .files.fault_words import plural
-from .texts.limits import check_count, Refused
-from .texts.names import names_in
-from .texts.puzzles import called, Change, Lists, no_cover, Puzzle, refuse, rows_of
+from ..boards.cells import Cell, cell_names, cell_words
+from ..command_line.ends import complain, stop
+from ..files.cover_files import MAX_ITEMS, MAX_OPTIONS
+from ..files.fault_words import plural
+from ..texts.limits import check_count, Refused
+from ..texts.names import names_in
+from ..texts.puzzles import called, Change, Lists, no_cover, Puzzle, refuse, rows_of
 
 
 class NoSolution(Exception):

@@ -11,11 +11,11 @@ import os
 import re
 from collections.abc import Iterable
 
-from .boards.turns import Cell, layers_of, minus, orientations
-from .files.cover_files import MAX_ITEMS
-from .files.fault_words import plural
-from .texts.names import names_in
-from .texts.puzzles import blocks_of, no_cover, Puzzle, refuse
+from ..boards.turns import Cell, layers_of, minus, orientations
+from ..files.cover_files import MAX_ITEMS
+from ..files.fault_words import plural
+from ..texts.names import names_in
+from ..texts.puzzles import blocks_of, no_cover, Puzzle, refuse
 
 FLAT = {
     "I1": "x", "I2": "xx", "I3": "xxx", "V3": "xx/x.", "I4": "xxxx", "L4": "xxx/x..", "O4": "xx/xx", "S4": ".xx/xx.", "T4": "xxx/.x.",

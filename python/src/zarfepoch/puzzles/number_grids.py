@@ -8,12 +8,12 @@ import re
 from collections import Counter
 from collections.abc import Iterator
 
-from .boards.cells import Cell, cell_names, cell_words
-from .files.cover_files import MAX_OPTIONS
-from .files.fault_words import plural, with_article
+from ..boards.cells import Cell, cell_names, cell_words
+from ..files.cover_files import MAX_OPTIONS
+from ..files.fault_words import plural, with_article
+from ..texts.names import names_in
+from ..texts.puzzles import blocks_of, Change, no_cover, Puzzle, refuse, rows_of
 from .sudokus import cells_by_letter, EMPTY, letters_of, want_whole
-from .texts.names import names_in
-from .texts.puzzles import blocks_of, Change, no_cover, Puzzle, refuse, rows_of
 
 # the words of each line with its number
 Rows = list[tuple[int, list[str]]]
