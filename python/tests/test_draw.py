@@ -23,9 +23,9 @@ import pytest
 from built import TOP
 from zarfepoch import generate
 from zarfepoch.files.cover_files import read_problem
-from zarfepoch.picture_kinds import picture_of
+from zarfepoch.pictures.kinds import picture_of
+from zarfepoch.pictures.svg_paper import folded, Paper, text_width
 from zarfepoch.puzzles import examples
-from zarfepoch.svg_paper import folded, Paper, text_width
 
 EXAMPLES = os.path.join(TOP, "examples")
 Point = tuple[float, float]

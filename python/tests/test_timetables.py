@@ -24,8 +24,8 @@ from plain_search import branching, read
 from plan_rules import choices, faults, Given, joined, read_plan, rows_of, Row, runs_in, times_of
 from planned_schools import planned, Tables
 from zarfepoch.files.cover_files import read_answer, read_problem
-from zarfepoch.picture_kinds import picture_of
-from zarfepoch.timetable_pictures import Timetable
+from zarfepoch.pictures.kinds import picture_of
+from zarfepoch.pictures.timetables import Timetable
 from zarfepoch.timetables.planned import movable, planned as answered
 from zarfepoch.timetables.plans import read_plan as kept_plan
 from zarfepoch.timetables.problem import timetables

@@ -35,9 +35,9 @@ from .command_line.ends import complain, run, stop
 from .command_line.words import parser_of
 from .files.cover_files import Answer, Problem, read_audited, read_problem, refusal, shown
 from .files.whole_files import Unreadable, read_bytes, write_out
-from .picture_kinds import picture_of
-from .plan_files import add_tables, with_plans, write_plans
-from .svg_paper import Paper
+from .pictures.kinds import picture_of
+from .pictures.plan_files import add_tables, with_plans, write_plans
+from .pictures.svg_paper import Paper
 from .texts.puzzles import called
 
 

@@ -48,9 +48,10 @@ from .files.cover_files import Problem, read_audited, read_problem
 from .files.fault_words import plural
 from .files.full_names import told_lines
 from .files.whole_files import put, write_out
-from .picture_base import Kind
-from .picture_kinds import in_words, picture_of
-from .plan_files import add_tables, with_plans, write_plans
+from .pictures.base import Kind
+from .pictures.kinds import in_words, picture_of
+from .pictures.plan_files import add_tables, with_plans, write_plans
+from .pictures.svg_paper import Paper
 from .problems import Asked
 from .programs import answered, Answered, find_program, own_words
 from .puzzles.kinds import kinds_listed, kinds_of, problems_of
@@ -59,7 +60,6 @@ from .reasons.even_room import any_reason
 from .search.all_covers import Covers
 from .search.other_covers import free_name, others_of
 from .search.parts import Tree
-from .svg_paper import Paper
 from .texts.puzzles import Change, PlainlyNone, Puzzle
 from .timetables.impossible import core_of, core_words
 from .timetables.planned import planned, TRY_SECONDS

@@ -27,12 +27,12 @@ from typing import Callable, Optional
 
 from .command_line.ends import complain, run, stop
 from .command_line.words import parser_of
-from .draw_reason import reason_svg
 from .files.cover_files import Problem, read_problem, refusal, shown
 from .files.fault_words import listed, plural, quoted
 from .files.full_names import told_lines
 from .files.whole_files import Unreadable, read_bytes, write_out
-from .picture_kinds import in_words
+from .pictures.kinds import in_words
+from .pictures.reasons import reason_svg
 from .programs import is_program, known_program, missing_program
 from .reasons.cover_reason import Named, Reason, clash
 from .reasons.even_room import any_reason

@@ -5,8 +5,8 @@ from __future__ import annotations
 import re
 from typing import Optional
 
-from .files.cover_files import Problem, shown
-from .reasons.cover_reason import Amounts, Reason
+from ..files.cover_files import Problem, shown
+from ..reasons.cover_reason import Amounts, Reason
 from .svg_paper import FAINT, FILLS, Cell, Paper, text_width
 
 CELL, CHIP, SIZE = 34, 26, 13

@@ -6,8 +6,8 @@ import re
 from collections.abc import Iterable
 from typing import Optional
 
-from .boards.cells import cell_of, cell_words
-from .files.cover_files import Option, Problem, shown
+from ..boards.cells import cell_of, cell_words
+from ..files.cover_files import Option, Problem, shown
 from .svg_paper import folded, MARGIN, Paper, WIDEST
 
 # the names of an option

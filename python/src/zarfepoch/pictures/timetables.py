@@ -9,11 +9,11 @@ import re
 import unicodedata
 from collections.abc import Callable, Iterable, Iterator, Sequence
 
-from .files.cover_files import Option, Problem
-from .files.full_names import full_names
-from .picture_base import Kind, Names, without_rules
+from ..files.cover_files import Option, Problem
+from ..files.full_names import full_names
+from ..timetables.weeks import day_and_number, in_week, natural
+from .base import Kind, Names, without_rules
 from .svg_paper import BACKGROUND, draw_table, FAINT, FILLS, folded, INK, MARGIN, Paper, table_text, text_width, WIDEST
-from .timetables.weeks import day_and_number, in_week, natural
 
 # rows of cells, each a lesson and who else is busy with it
 Rows = list[list[tuple[str, str]]]

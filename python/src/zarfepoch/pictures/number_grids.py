@@ -4,10 +4,10 @@ from __future__ import annotations
 import itertools
 import re
 
-from .boards.cells import Cell, cell_of, cell_words, known_cell
-from .files.fault_words import with_article
-from .grid_pictures import line_words, WHITE
-from .picture_base import CELL, Kind, LARGEST
+from ..boards.cells import Cell, cell_of, cell_words, known_cell
+from ..files.fault_words import with_article
+from .base import CELL, Kind, LARGEST
+from .grids import line_words, WHITE
 from .svg_paper import ACCENT, Board, FAINT, FILLS, INK, Paper
 
 TREE, TENT, GRASS = "#4c8a4f", ACCENT, "#eaf3e4"

@@ -7,11 +7,11 @@ import re
 from argparse import ArgumentParser, Namespace
 from collections.abc import Iterable
 
-from .command_line.ends import stop
-from .files.whole_files import put, write_out
-from .picture_base import Kind
+from ..command_line.ends import stop
+from ..files.whole_files import put, write_out
+from .base import Kind
 from .svg_paper import Paper
-from .timetable_pictures import draw_plans, Timetable
+from .timetables import draw_plans, Timetable
 
 # the longest name of a file here, in bytes and without what stands behind the dot
 LONGEST = 200

@@ -7,19 +7,19 @@ import math
 import re
 from typing import Optional
 
-from . import number_pictures
-from .board_pictures import Layers, Tiling
-from .boards.cells import Cell, cell_of, known_cell
-from .files.cover_files import Option, Problem, shown
-from .files.full_names import full_names
-from .grid_pictures import Kakuro, Nonogram, Stars, WHITE, Words
-from .picture_base import CELL, draw_lines, Kind, known_colour, Names
+from ..boards.cells import Cell, cell_of, known_cell
+from ..files.cover_files import Option, Problem, shown
+from ..files.full_names import full_names
+from ..reasons.cover_reason import Named
+from . import number_grids
+from .base import CELL, draw_lines, Kind, known_colour, Names
+from .boards import Layers, Tiling
+from .grids import Kakuro, Nonogram, Stars, WHITE, Words
 from .planar import places
-from .reasons.cover_reason import Named
-from .sudoku_pictures import Sudoku
+from .sudokus import Sudoku
 from .svg_paper import ACCENT, BACKGROUND, FAINT, FILLS, INK, on_circle, Paper, Point, table_text, text_width, WIDEST
 from .terminal_text import centred, on_left, on_right, widest
-from .timetable_pictures import Timetable
+from .timetables import Timetable
 
 
 # a map of more places, or one that needs a larger radius, is drawn as a list
@@ -367,7 +367,7 @@ class Cubes(Kind):
         self.caption(paper)
 
 
-KINDS: list[type[Kind]] = [*number_pictures.KINDS, Sudoku, Queens, Langford, Kakuro, Triples, Cubes, Layers, Tiling, Timetable, Colouring, Matching, Squares, Nonogram, Stars, Words]
+KINDS: list[type[Kind]] = [*number_grids.KINDS, Sudoku, Queens, Langford, Kakuro, Triples, Cubes, Layers, Tiling, Timetable, Colouring, Matching, Squares, Nonogram, Stars, Words]
 
 
 def picture_of(problem: Problem, chosen: list[Option], is_none: bool) -> Kind:

@@ -4,10 +4,10 @@ from __future__ import annotations
 import functools
 import re
 
-from .boards.boxes import BOXES
-from .boards.cells import Cell
-from .files.fault_words import with_article
-from .picture_base import CELL, Kind, Names
+from ..boards.boxes import BOXES
+from ..boards.cells import Cell
+from ..files.fault_words import with_article
+from .base import CELL, Kind, Names
 from .svg_paper import ACCENT, Board, INK, Paper
 from .terminal_text import on_right, widest
 

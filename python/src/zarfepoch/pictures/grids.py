@@ -4,8 +4,8 @@ from __future__ import annotations
 import itertools
 import re
 
-from .boards.cells import Cell, cell_of, known_cell
-from .picture_base import CELL, Kind, LARGEST, Names
+from ..boards.cells import Cell, cell_of, known_cell
+from .base import CELL, Kind, LARGEST, Names
 from .svg_paper import ACCENT, Board, FAINT, INK, Paper
 from .terminal_text import on_left, widest
 

@@ -6,9 +6,9 @@ import re
 from collections.abc import Callable
 from typing import Any
 
-from .boards.cells import Cell, cell_of, is_connected, sheet_cell_of
-from .boards.turns import at_origin, layers_of, orientations
-from .picture_base import CELL, Kind, LARGEST, without_order
+from ..boards.cells import Cell, cell_of, is_connected, sheet_cell_of
+from ..boards.turns import at_origin, layers_of, orientations
+from .base import CELL, Kind, LARGEST, without_order
 from .svg_paper import Board, FILLS, MARGIN, Paper, WIDEST
 
 # a cell of a solid, by layer, row and column
