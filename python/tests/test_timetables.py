@@ -26,7 +26,7 @@ from planned_schools import planned, Tables
 from zarfepoch.files.cover_files import read_answer, read_problem
 from zarfepoch.pictures.kinds import picture_of
 from zarfepoch.pictures.timetables import Timetable
-from zarfepoch.timetables.planned import movable, planned as answered
+from zarfepoch.timetables.answers import movable, planned as answered
 from zarfepoch.timetables.plans import read_plan as kept_plan
 from zarfepoch.timetables.problem import timetables
 from zarfepoch.timetables.rules import read_school

@@ -61,8 +61,8 @@ from .search.all_covers import Covers
 from .search.other_covers import free_name, others_of
 from .search.parts import Tree
 from .texts.puzzles import Change, PlainlyNone, Puzzle
+from .timetables.answers import planned, TRY_SECONDS
 from .timetables.impossible import core_of, core_words
-from .timetables.planned import planned, TRY_SECONDS
 from .timetables.plans import Plan, read_plan
 from .timetables.problem import Timetable, note_size
 from .timetables.weeks import in_order
