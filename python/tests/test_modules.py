@@ -1,4 +1,4 @@
-"""Tests the order of the package's modules: each takes only from those that stand before it on the page of the package, and a subpackage says from which."""
+"""Tests the order of the package's modules: each takes only from those before it on the page of the package, and a subpackage says from which."""
 from __future__ import annotations
 
 import ast
