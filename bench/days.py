@@ -28,7 +28,7 @@ HERE = os.path.dirname(os.path.abspath(__file__))
 sys.path.insert(0, os.path.join(HERE, "..", "trials"))
 from built import SOLVE_CLI, number_from_one, parser_of, stop, want_program  # noqa: E402
 from problems import write  # noqa: E402
-from zarfepoch import puzzles  # noqa: E402
+from zarfepoch.puzzles import by_number  # noqa: E402
 
 # the entries of a book of the default, and of the books of these runs
 DEFAULT, ENTRIES = 1_000_000, 200_000
@@ -125,7 +125,7 @@ def main() -> None:
     print(f"| {' | '.join(HEAD)} |\n|{'---|' * len(HEAD)}", flush=True)
     with tempfile.TemporaryDirectory() as folder:
         file = os.path.join(folder, "langford.dlx")
-        items, _, options = puzzles.langford(given.pairs)
+        items, _, options = by_number.langford(given.pairs)
         write(file, items, options)
         for sites in chosen:
             print(row(sites, *looks(file, sites, given.seconds, folder)), flush=True)

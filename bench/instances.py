@@ -17,13 +17,13 @@ HERE = os.path.dirname(os.path.abspath(__file__))
 sys.path.insert(0, os.path.join(HERE, "..", "trials"))
 from built import parser_of, stop  # noqa: E402
 from problems import put  # noqa: E402
-from zarfepoch.cells import rectangle  # noqa: E402
-from zarfepoch.coloured_sides import squares  # noqa: E402
-from zarfepoch.puzzle_texts import Puzzle  # noqa: E402
-from zarfepoch.puzzles import langford_pairs  # noqa: E402
-from zarfepoch.sudokus import sudoku_of  # noqa: E402
-from zarfepoch.tilings import PENTOMINOES, dominoes, orientations, shape  # noqa: E402
-from zarfepoch.word_puzzles import word_squares  # noqa: E402
+from zarfepoch.boards.cells import rectangle  # noqa: E402
+from zarfepoch.puzzles.by_number import langford_pairs  # noqa: E402
+from zarfepoch.puzzles.coloured_sides import squares  # noqa: E402
+from zarfepoch.puzzles.sudokus import sudoku_of  # noqa: E402
+from zarfepoch.puzzles.tilings import PENTOMINOES, dominoes, orientations, shape  # noqa: E402
+from zarfepoch.puzzles.words import word_squares  # noqa: E402
+from zarfepoch.texts.puzzles import Puzzle  # noqa: E402
 
 # what the first comment of most instances says
 NOTE = "an instance of the benchmark"

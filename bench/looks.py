@@ -30,8 +30,8 @@ from problems import write
 HERE = os.path.dirname(os.path.abspath(__file__))
 sys.path.insert(0, os.path.join(HERE, "..", "trials"))
 from built import SOLVE_CLI, number_from_one, parser_of, path_of, want_program  # noqa: E402
-from zarfepoch.cells import rectangle  # noqa: E402
-from zarfepoch.tilings import PENTOMINOES, orientations, shape  # noqa: E402
+from zarfepoch.boards.cells import rectangle  # noqa: E402
+from zarfepoch.puzzles.tilings import PENTOMINOES, orientations, shape  # noqa: E402
 
 Cell = tuple[int, int]
 PERCENT, MILLISECOND = 1.02, 0.001

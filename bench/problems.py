@@ -9,9 +9,9 @@ from typing import Optional
 sys.path.insert(0, os.path.join(os.path.dirname(os.path.abspath(__file__)), "..", "trials"))
 import built  # noqa: E402, F401 (which finds the package)
 from zarfepoch import generate  # noqa: E402
-from zarfepoch.cells import Cell, names_of  # noqa: E402
-from zarfepoch.limits import check_range  # noqa: E402
-from zarfepoch.puzzle_texts import Puzzle  # noqa: E402
+from zarfepoch.boards.cells import Cell, names_of  # noqa: E402
+from zarfepoch.texts.limits import check_range  # noqa: E402
+from zarfepoch.texts.puzzles import Puzzle  # noqa: E402
 
 
 def put(folder: str, name: str, note: str, puzzle: Puzzle) -> None:

@@ -27,10 +27,10 @@ from built import SOLVE_CLI, TOP, number_from_one, parser_of, stop, want_program
 from implied_kinds import odd_board  # noqa: E402
 import measured  # noqa: E402
 from problems import put, straight  # noqa: E402
-from zarfepoch.cells import names_of, rectangle  # noqa: E402
-from zarfepoch.puzzle_texts import Puzzle  # noqa: E402
-from zarfepoch.puzzles import langford_pairs, triples  # noqa: E402
-from zarfepoch.tilings import TETROMINOES, dominoes, placements  # noqa: E402
+from zarfepoch.boards.cells import names_of, rectangle  # noqa: E402
+from zarfepoch.puzzles.by_number import langford_pairs, triples  # noqa: E402
+from zarfepoch.puzzles.tilings import TETROMINOES, dominoes, placements  # noqa: E402
+from zarfepoch.texts.puzzles import Puzzle  # noqa: E402
 
 ZARFEPOCH = [sys.executable, os.path.join(TOP, "scripts", "zarfepoch")]
 EXAMPLES = ("langford-5", "mutilated-chessboard", "tetrominoes-4x5")

@@ -28,9 +28,9 @@ sys.path.insert(0, os.path.join(HERE, "..", "trials"))
 from built import WORKBENCH, number_from_one, parser_of, stop, want_program  # noqa: E402
 from measured import run  # noqa: E402
 from problems import put  # noqa: E402
-from zarfepoch.cells import rectangle  # noqa: E402
-from zarfepoch.puzzle_texts import Puzzle  # noqa: E402
-from zarfepoch.tilings import dominoes  # noqa: E402
+from zarfepoch.boards.cells import rectangle  # noqa: E402
+from zarfepoch.puzzles.tilings import dominoes  # noqa: E402
+from zarfepoch.texts.puzzles import Puzzle  # noqa: E402
 
 KINDS = ["links", "sets"]
 

@@ -30,8 +30,8 @@ sys.path.insert(0, os.path.join(HERE, "..", "trials"))
 from built import is_right, number_from_one, parser_of, SOLVE_CLI, stop, want_program  # noqa: E402
 from problems import put  # noqa: E402
 from states import write_instances  # noqa: E402
-from zarfepoch import puzzles  # noqa: E402
-from zarfepoch.puzzle_texts import Puzzle  # noqa: E402
+from zarfepoch.puzzles import by_number  # noqa: E402
+from zarfepoch.texts.puzzles import Puzzle  # noqa: E402
 
 NAMES = ["langford-13", "langford-13-long", "torus-queens-15", "skewed", "skewed-long", "diamond", "pentominoes-3x20", "sudoku-hard", "mutilated-chessboard"]
 # nodes, workers
@@ -39,7 +39,7 @@ SITES = [(1, 1), (1, 2), (1, 4), (2, 1), (4, 1)]
 
 
 # the numbers with their places, and the options of Langford pairs of 13, which have no pairing
-NUMBERS_AND_PLACES, _, PAIRS = puzzles.langford(13)
+NUMBERS_AND_PLACES, _, PAIRS = by_number.langford(13)
 PLACES = NUMBERS_AND_PLACES[13:]
 # thirty choices, each of which leaves all of the work to one of its two options
 SKEWED = [f"z{k}" for k in range(30)]

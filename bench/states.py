@@ -34,9 +34,9 @@ from built import SOLVE_CLI, WORKBENCH, number_from_one, parser_of, stop, want_p
 from encodings_of_peers import formula_of, program_of  # noqa: E402
 from measured import ended, processor_seconds  # noqa: E402
 from problems import put, straight  # noqa: E402
-from zarfepoch.cells import rectangle  # noqa: E402
-from zarfepoch.puzzle_texts import Puzzle  # noqa: E402
-from zarfepoch.tilings import dominoes  # noqa: E402
+from zarfepoch.boards.cells import rectangle  # noqa: E402
+from zarfepoch.puzzles.tilings import dominoes  # noqa: E402
+from zarfepoch.texts.puzzles import Puzzle  # noqa: E402
 
 GREATEST = str(2 ** 64 - 1)
 BOARDS = (8, 10, 12, 14, 16, 18, 20)

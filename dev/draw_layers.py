@@ -22,7 +22,7 @@ sys.path.insert(0, os.path.join(os.path.dirname(os.path.abspath(__file__)), ".."
 from built import TOP, parser_of, stop  # noqa: E402
 from crate_layers import Crates, Group, read_crates, text_of  # noqa: E402
 from layer_layout import BOX, Layout, Node  # noqa: E402
-from zarfepoch.svg_paper import FAINT, FILLS, INK, Paper, Point, number  # noqa: E402
+from zarfepoch.pictures.svg_paper import FAINT, FILLS, INK, Paper, Point, number  # noqa: E402
 
 PICTURE, TOUR = os.path.join(TOP, "docs", "layers.svg"), os.path.join(TOP, "docs", "TOUR.md")
 ROW, HIGH, GAP, PAD = 54.0, 30.0, 10.0, 9.0

@@ -23,7 +23,7 @@ from built import SOLVE_CLI, parser_of, stop, want_program  # noqa: E402
 from help_texts import PROGRAM, Help, command_help, longs, program_help  # noqa: E402
 import zarfepoch  # noqa: E402
 from zarfepoch.commands import COMMANDS  # noqa: E402
-from zarfepoch.kinds import KINDS  # noqa: E402
+from zarfepoch.puzzles.kinds import KINDS  # noqa: E402
 
 # the words that may come first behind a command
 KINDS_OF = {command: [kind.name for kind in KINDS] for command in ("zarfepoch", "zarfepoch-generate")}

@@ -139,7 +139,8 @@ for name in solve_cli $commands; do
     shown 644 "$pages/_$name" "$zsh/_$name"
 done
 rm -rf -- "$prefix/$share/zarfepoch"
-for file in "$top"/python/src/zarfepoch/*.py "$top"/python/src/zarfepoch/py.typed; do
-    put 644 "$file" "$share/zarfepoch/$(basename "$file")"
-done
+(cd "$top/python/src" && find zarfepoch -type f \( -name '*.py' -o -name py.typed \)) >"$pages/package"
+while read -r file; do
+    put 644 "$top/python/src/$file" "$share/$file"
+done <"$pages/package"
 echo "$prefix/$share/zarfepoch"

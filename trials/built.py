@@ -11,8 +11,8 @@ import sys
 
 TOP = os.path.dirname(os.path.dirname(os.path.abspath(__file__)))
 sys.path.insert(0, os.path.join(TOP, "python", "src"))
-from zarfepoch.command_words import number_from_one as number_from_one, parser_of as parser_of  # noqa: E402
-from zarfepoch.command_ends import stop as stop  # noqa: E402
+from zarfepoch.command_line.ends import stop as stop  # noqa: E402
+from zarfepoch.command_line.words import number_from_one as number_from_one, parser_of as parser_of  # noqa: E402
 
 
 def program_of(crate: str) -> str:

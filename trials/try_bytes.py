@@ -19,7 +19,7 @@ from collections.abc import Iterator
 from typing import Callable, Optional
 
 from built import parser_of, TOP
-from zarfepoch.cover_files import read_answer, read_problem
+from zarfepoch.files.cover_files import read_answer, read_problem
 
 PACKETS = """
     434e0104 0000000001 0200000001 00000000 00000001 0000

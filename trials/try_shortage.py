@@ -39,8 +39,8 @@ from collections.abc import Mapping, Sequence
 from typing import NamedTuple, Optional
 
 from built import SOLVE_CLI, TOP, number_from_one, parser_of, want_command, want_program
-from zarfepoch import puzzles
-from zarfepoch.puzzle_texts import Puzzle
+from zarfepoch.puzzles import by_number
+from zarfepoch.texts.puzzles import Puzzle
 
 LETTERS = "a b c d e f g\nc e\na d g\nb c f\na d f\nb g\nd e g\n"
 ANSWER = "cover 3\nc e\na d f\nb g\n"
@@ -178,7 +178,7 @@ def langford(folder: str, pairs: int) -> str:
     """A file of so many Langford pairs."""
     path = os.path.join(folder, f"langford-{pairs}.dlx")
     with open(path, "wb") as file:
-        file.write(Puzzle(*puzzles.langford(pairs)).text())
+        file.write(Puzzle(*by_number.langford(pairs)).text())
     return path
 
 

@@ -21,10 +21,11 @@ from hypothesis import HealthCheck, given, settings, strategies as some
 import pytest
 
 from built import TOP
-from zarfepoch import examples, generate
-from zarfepoch.cover_files import read_problem
-from zarfepoch.picture_kinds import picture_of
-from zarfepoch.svg_paper import folded, Paper, text_width
+from zarfepoch import generate
+from zarfepoch.files.cover_files import read_problem
+from zarfepoch.pictures.kinds import picture_of
+from zarfepoch.pictures.svg_paper import folded, Paper, text_width
+from zarfepoch.puzzles import examples
 
 EXAMPLES = os.path.join(TOP, "examples")
 Point = tuple[float, float]

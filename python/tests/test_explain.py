@@ -24,7 +24,7 @@ import pytest
 
 from built import TOP
 from zarfepoch import explain
-from zarfepoch.cover_files import shown
+from zarfepoch.files.cover_files import shown
 
 FAULTS = ["NoItems", "IllegalByte", "NameTooLong", "BadColour", "DuplicateItem", "SecondBar", "UnknownItem", "DuplicateInOption",
           "ColourOnPrimary", "TooManyItems", "TooManyOptions", "TooManyNodes", "TooManyColours", "BadHead", "WrongCount",

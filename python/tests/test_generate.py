@@ -18,7 +18,7 @@ import pytest
 
 from built import TOP
 from drawn_kinds import PUZZLES, drawn_by_lot
-from zarfepoch.full_names import full_name, full_names, named_numbers
+from zarfepoch.files.full_names import full_name, full_names, named_numbers
 from school_rules import faults, school
 
 HEAD = "lesson,teacher,class,rooms,periods"

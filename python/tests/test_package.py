@@ -29,12 +29,12 @@ from plain_search import clash, Numbered, read, search
 from processes import children_called, long_search
 import zarfepoch
 from zarfepoch import Clique, Colored, Problem, Reason
-from zarfepoch.all_covers import Covers, Question
 from zarfepoch.commands import COMMANDS
-from zarfepoch.cover_files import read_problem
-from zarfepoch.even_room import any_reason, even_room, greatest
+from zarfepoch.files.cover_files import read_problem
 from zarfepoch.problems import Asked
-from zarfepoch.search_parts import Prefix, Tree
+from zarfepoch.reasons.even_room import any_reason, even_room, greatest
+from zarfepoch.search.all_covers import Covers, Question
+from zarfepoch.search.parts import Prefix, Tree
 
 README = os.path.join(TOP, "python", "README.md")
 EXAMPLES = os.path.join(TOP, "examples")

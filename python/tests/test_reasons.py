@@ -22,9 +22,10 @@ import pytest
 
 from built import TOP
 from plain_search import read, search
-from zarfepoch import check_reason, puzzles
-from zarfepoch.cover_files import read_problem
-from zarfepoch.cover_reason import Reason
+from zarfepoch import check_reason
+from zarfepoch.files.cover_files import read_problem
+from zarfepoch.puzzles import by_number
+from zarfepoch.reasons.cover_reason import Reason
 
 
 def why(text: str) -> tuple[int, bytes]:
@@ -133,7 +134,7 @@ def board(size: int) -> str:
 
 
 def langford(size: int) -> str:
-    return lines(*puzzles.langford(size))
+    return lines(*by_number.langford(size))
 
 
 def triples(points: int) -> str:

@@ -29,9 +29,9 @@ import pytest
 from built import TOP
 from plain_search import Numbered, branching, live_options, read
 from try_certificates import by_script, certificates
-from zarfepoch.cover_files import read_problem
-from zarfepoch.joined_certificates import JOINERS, PartText
-from zarfepoch.search_parts import Split, Tree, list_text, places_in, split, texts_of
+from zarfepoch.files.cover_files import read_problem
+from zarfepoch.search.joined_certificates import JOINERS, PartText
+from zarfepoch.search.parts import Split, Tree, list_text, places_in, split, texts_of
 
 PROGRAM = os.environ["ZARFEPOCH"]
 RUN_PART = os.path.join(TOP, "scripts", "run_part.sh")

@@ -23,13 +23,13 @@ import pytest
 from plain_search import branching, read
 from plan_rules import choices, faults, Given, joined, read_plan, rows_of, Row, runs_in, times_of
 from planned_schools import planned, Tables
-from zarfepoch.answers import movable, planned as answered
-from zarfepoch.cover_files import read_answer, read_problem
-from zarfepoch.picture_kinds import picture_of
-from zarfepoch.timetable_pictures import Timetable
-from zarfepoch.timetable_plans import read_plan as kept_plan
-from zarfepoch.timetable_rules import read_school
-from zarfepoch.timetables import timetables
+from zarfepoch.files.cover_files import read_answer, read_problem
+from zarfepoch.pictures.kinds import picture_of
+from zarfepoch.pictures.timetables import Timetable
+from zarfepoch.timetables.answers import movable, planned as answered
+from zarfepoch.timetables.plans import read_plan as kept_plan
+from zarfepoch.timetables.problem import timetables
+from zarfepoch.timetables.rules import read_school
 
 HEAD = "lesson;teacher;class;rooms;periods;times;length;a_day;apart;fixed;after"
 WEEK = "Mon1-3 Tue1-2"

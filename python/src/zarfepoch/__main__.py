@@ -7,9 +7,9 @@ from collections.abc import Hashable
 from typing import Any, Optional
 
 from . import Colored, Word, solve
-from .command_ends import run, stop
+from .command_line.ends import run, stop
+from .files.whole_files import Unreadable, read_bytes
 from .solved import command_line, kind_missing, solve_kind
-from .whole_files import Unreadable, read_bytes
 
 
 def is_name(value: object) -> bool:

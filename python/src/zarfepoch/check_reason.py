@@ -16,10 +16,10 @@ from __future__ import annotations
 
 import itertools
 
-from .command_ends import run, stop
-from .command_words import parser_of
-from .cover_files import read_problem, refusal, shown
-from .whole_files import read_bytes, Unreadable
+from .command_line.ends import run, stop
+from .command_line.words import parser_of
+from .files.cover_files import read_problem, refusal, shown
+from .files.whole_files import read_bytes, Unreadable
 
 # the words of each line
 Lines = list[list[bytes]]

@@ -8,7 +8,7 @@ import importlib
 from collections.abc import Callable
 from typing import NoReturn
 
-from .command_ends import run, Status
+from .command_line.ends import run, Status
 
 
 def command_of(module: str) -> Callable[[], NoReturn]:

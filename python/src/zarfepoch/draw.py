@@ -29,20 +29,16 @@ be written.
 """
 from __future__ import annotations
 
-import argparse
-import sys
 from argparse import Namespace
 
-from .command_ends import complain, run, stop
-from .command_words import parser_of
-from .cover_files import Answer, Problem, read_audited, read_problem, refusal, shown
-from .picture_base import Kind
-from .picture_kinds import picture_of
-from .plan_files import grid_of, timetable_of, write_each
-from .puzzle_texts import called
-from .svg_paper import Paper
-from .timetable_pictures import Timetable
-from .whole_files import Unreadable, put, read_bytes
+from .command_line.ends import complain, run, stop
+from .command_line.words import parser_of
+from .files.cover_files import Answer, Problem, read_audited, read_problem, refusal, shown
+from .files.whole_files import Unreadable, read_bytes, write_out
+from .pictures.kinds import picture_of
+from .pictures.plan_files import add_tables, with_plans, write_plans
+from .pictures.svg_paper import Paper
+from .texts.puzzles import called
 
 
 def title_of(text: bytes, file: str) -> str:
@@ -79,47 +75,6 @@ def read_files(given: Namespace) -> tuple[Problem, str, Answer]:
     return problem, title_of(text, given.file), answer
 
 
-def write_out(path: str, text: str) -> None:
-    """Writes a picture or a table into a file, or on the standard output."""
-    if path == "-":
-        sys.stdout.buffer.write(text.encode("utf-8"))
-        return
-    try:
-        put(path, text)
-    except OSError as why:
-        stop(f"{path} can't be written: {why.strerror}", 3)
-
-
-def planned(picture: Kind, words: list[str]) -> Kind:
-    """The picture with the plans that are wanted; ends the script where it has none of these."""
-    if not words:
-        return picture
-    if not isinstance(picture, Timetable):
-        stop("--plan is for timetables, and this is none")
-    picture.plans = words
-    if picture.unknown_plans():
-        names = [picture.full(name) for name in picture.everybody()]
-        stop(f"--plan takes classes, teachers, rooms, all, or a name of {', '.join(names)}; '{picture.unknown_plans()[0]}' is none of these")
-    return picture
-
-
-def write_plans(given: Namespace, picture: Kind, title: str) -> None:
-    """Writes the plans of a timetable as the tables and into the folder that the command line wants."""
-    if given.csv:
-        write_out(given.csv, timetable_of(picture, "--csv").table())
-    if given.grid:
-        write_out(given.grid, grid_of(picture))
-    if given.out_dir:
-        write_each(given.out_dir, picture, title)
-
-
-def add_tables(parser: argparse.ArgumentParser) -> None:
-    """Adds what a command has for the plans of a timetable as files."""
-    parser.add_argument("--csv", metavar="PLAN.csv", help="of a timetable, where the plan is written as a table with a row for each time of a lesson")
-    parser.add_argument("--grid", metavar="WEEK.csv", help="of a timetable, where plans are written as a table that people read, with days across")
-    parser.add_argument("--out-dir", metavar="FOLDER", help="of a timetable, where each plan is written as a picture and a table of its own")
-
-
 def main() -> int:
     parser = parser_of(__doc__)
     parser.add_argument("file", metavar="FILE", help="the problem's file, or - for the standard input")
@@ -135,7 +90,7 @@ def main() -> int:
         parser.error("- is the standard output, which takes one of picture and tables")
     problem, title, answer = read_files(given)
     chosen = [problem.options[place] for _, place in answer.chosen]
-    picture = planned(picture_of(problem, chosen, answer.kind == "none"), given.plan)
+    picture = with_plans(picture_of(problem, chosen, answer.kind == "none"), given.plan)
     if given.svg:
         paper = Paper(title)
         picture.draw(paper)

@@ -19,15 +19,15 @@ import contextlib
 from collections.abc import Iterator, Sequence
 from typing import Optional
 
-from .command_ends import run
-from .command_words import parser_of
-from .cover_files import MAX_COLOURS, MAX_ITEMS, MAX_OCCURRENCES, MAX_OPTIONS, Answer, Fault, Line, Word
-from .cover_files import is_comment, lines_of, Problem, read_answer, read_problem, refusal, shown
-from .even_room import any_reason
-from .fault_words import answer_fault_words, fault_words, grouped, listed, looks, plural, quoted
-from .full_names import named_numbers
+from .command_line.ends import run
+from .command_line.words import parser_of
+from .files.cover_files import MAX_COLOURS, MAX_ITEMS, MAX_OCCURRENCES, MAX_OPTIONS, Answer, Fault, Line, Word
+from .files.cover_files import is_comment, lines_of, Problem, read_answer, read_problem, refusal, shown
+from .files.fault_words import answer_fault_words, fault_words, grouped, listed, looks, plural, quoted
+from .files.full_names import told_lines
+from .files.whole_files import TooLarge, Unreadable, read_bytes
 from .programs import known_program
-from .whole_files import TooLarge, Unreadable, read_bytes
+from .reasons.even_room import any_reason
 
 SAYS = "the program says: "
 BY_SEARCH = "that there is no cover is decided by the program's search alone"
@@ -348,8 +348,7 @@ def explain(text: bytes, answer_text: Optional[bytes] = None) -> tuple[list[str]
     lines += remarks + list(explain_good(problem, text))
     if answer:
         lines += list(explain_answer(problem, answer))
-    lines += named_numbers(list(map(shown, problem.comments)), list(map(shown, problem.items)), lines)
-    return lines, not (answer and (answer.faults or (verdict(problem, answer) or "right") != "right"))
+    return told_lines(problem, lines), not (answer and (answer.faults or (verdict(problem, answer) or "right") != "right"))
 
 
 def main(words: Optional[Sequence[str]] = None) -> int:

@@ -23,12 +23,12 @@ from collections.abc import Iterator
 from dataclasses import replace
 from typing import Optional
 
-from .command_ends import complain, run, stop
-from .command_words import parser_of
-from .examples import examples, FROM_TEXTS
-from .kinds import kinds_help, kinds_of, problems_of
-from .puzzle_texts import Puzzle, refuse
-from .whole_files import put_bytes
+from .command_line.ends import complain, run, stop
+from .command_line.words import parser_of
+from .files.whole_files import put_bytes
+from .puzzles.examples import examples, FROM_TEXTS
+from .puzzles.kinds import kinds_help, kinds_of, problems_of
+from .texts.puzzles import Puzzle, refuse
 
 # where examples are in a clone, and the texts that they are made from
 EXAMPLES = os.path.join(os.path.dirname(os.path.abspath(__file__)), "..", "..", "..", "examples")

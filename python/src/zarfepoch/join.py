@@ -24,13 +24,13 @@ import re
 import sys
 from typing import NamedTuple, Optional
 
-from .certified_parts import NotRight, body_of, join_certificates, kind_of
-from .command_ends import complain, run, stop
-from .command_words import parser_of
-from .cover_files import Answer, lines_of, refusal, shown
-from .joined_certificates import JOINERS, PartText
-from .whole_files import Unreadable, read_bytes
-from .search_parts import (LIST, MOST_PARTS, WHOLE, Prefix, Split, Tree, answer_name, certificate_name, cover_text, list_text, part_name, path_in,
+from .command_line.ends import complain, run, stop
+from .command_line.words import parser_of
+from .files.cover_files import Answer, lines_of, refusal, shown
+from .files.whole_files import Unreadable, read_bytes
+from .search.certified_parts import NotRight, body_of, join_certificates, kind_of
+from .search.joined_certificates import JOINERS, PartText
+from .search.parts import (LIST, MOST_PARTS, WHOLE, Prefix, Split, Tree, answer_name, certificate_name, cover_text, list_text, part_name, path_in,
                            read_tree, split, texts_of)
 
 # so many faults are named; of the others only the number is given

@@ -9,16 +9,17 @@ import time
 from collections.abc import Hashable, Iterable, Iterator, Mapping
 from typing import cast, NamedTuple, Optional, Union
 
-from . import cover_files, cover_reason
-from .all_covers import Covers, Run
-from .cover_files import MAX_COLOURS, MAX_ITEMS, MAX_NAME, MAX_OCCURRENCES, MAX_OPTIONS
 from .errors import (
     ColoredPrimary, NoAnswer, OutOfMemory, ProblemError, ProgramError, RepeatedItem, TimeIsUp, TooLarge, UncleanAudit, UnknownItem, WrongNumber)
-from .even_room import even_room
-from .fault_words import fault_words
+from .files import cover_files
+from .files.cover_files import MAX_COLOURS, MAX_ITEMS, MAX_NAME, MAX_OCCURRENCES, MAX_OPTIONS
+from .files.fault_words import fault_words
+from .files.whole_files import put_bytes
 from .programs import find_program, own_words, tied
-from .search_parts import part_text, places_in, Prefix, Tree
-from .whole_files import put_bytes
+from .reasons import cover_reason
+from .reasons.even_room import even_room
+from .search.all_covers import Covers, Run
+from .search.parts import part_text, places_in, Prefix, Tree
 
 # the program takes a limit of at most a million seconds
 MOST_SECONDS = 999_999

@@ -1,10 +1,11 @@
-"""Where the program solve_cli is: what ZARFEPOCH names in the environment, else what is on the path, else what was built in this clone, with proofs or,
-if there is no other, without (scripts/build.sh --unproved)."""
+"""The program solve_cli: where it is, and how commands ask it for an answer. It is what ZARFEPOCH names in the environment, else what is on the path,
+else what was built in this clone, with proofs or, if there is no other, without (scripts/build.sh --unproved)."""
 from __future__ import annotations
 
 import os
 import shutil
-from typing import Optional
+import subprocess
+from typing import NamedTuple, Optional
 
 from .errors import NoProgram
 
@@ -48,3 +49,21 @@ def find_program() -> str:
     if path is None:
         raise NoProgram(missing_program(os.environ.get("ZARFEPOCH")))
     return path
+
+
+class Answered(NamedTuple):
+    """The program's exit status, what it wrote, and what it said on standard error."""
+    status: int
+    text: bytes
+    why: str
+
+
+def asked(program: str, words: list[str], text: bytes) -> Answered:
+    """What the program answers to a problem on its standard input; an OSError where it can't be run."""
+    ran = subprocess.run([program, *words], input=text, capture_output=True)
+    return Answered(ran.returncode, ran.stdout, ran.stderr.decode(errors="replace").strip())
+
+
+def answered(program: str, text: bytes, seconds: Optional[float] = None) -> Answered:
+    """The answer to a problem, within so many seconds if they are told."""
+    return asked(program, ["answer", "-", *(["--seconds", str(max(1, round(seconds)))] if seconds else [])], text)

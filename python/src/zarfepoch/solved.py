@@ -41,31 +41,31 @@ from collections import Counter
 from collections.abc import Iterator
 from typing import Optional
 
-from .all_covers import Covers
-from .another import free_name, others_of
-from .answers import Answered, answered, planned, TRY_SECONDS
-from .command_ends import complain, stop
-from .command_words import as_called, parser_of
-from .cover_files import Problem, read_audited, read_problem
-from .draw import add_tables, planned as planned_picture, write_out, write_plans
+from .command_line.ends import complain, stop
+from .command_line.words import as_called, parser_of
 from .errors import NoProgram, OutOfMemory, ProgramError, TimeIsUp
-from .even_room import any_reason
-from .fault_words import plural
-from .impossible import core_of, core_words
-from .kinds import kinds_listed, kinds_of, problems_of
-from .mistyped import SECONDS as CHANGE_SECONDS, told_changes
-from .picture_base import Kind
-from .picture_kinds import picture_of
+from .files.cover_files import Problem, read_audited, read_problem
+from .files.fault_words import plural
+from .files.full_names import told_lines
+from .files.whole_files import put, write_out
+from .pictures.base import Kind
+from .pictures.kinds import in_words, picture_of
+from .pictures.plan_files import add_tables, with_plans, write_plans
+from .pictures.svg_paper import Paper
 from .problems import Asked
-from .programs import find_program, own_words
-from .puzzle_texts import Change, PlainlyNone, Puzzle
-from .search_parts import Tree
-from .svg_paper import Paper
-from .timetable_plans import Plan, read_plan
-from .timetables import Timetable, note_size
-from .weeks import in_order
-from .whole_files import put
-from .why_none import in_words, told_lines
+from .programs import answered, Answered, find_program, own_words
+from .puzzles.kinds import kinds_listed, kinds_of, problems_of
+from .puzzles.mistyped import SECONDS as CHANGE_SECONDS, told_changes
+from .reasons.even_room import any_reason
+from .search.all_covers import Covers
+from .search.other_covers import free_name, others_of
+from .search.parts import Tree
+from .texts.puzzles import Change, PlainlyNone, Puzzle
+from .timetables.answers import planned, TRY_SECONDS
+from .timetables.impossible import core_of, core_words
+from .timetables.plans import Plan, read_plan
+from .timetables.problem import Timetable, note_size
+from .timetables.weeks import in_order
 
 # a lesson by its title and its classes, in a period
 Time = tuple[tuple[str, frozenset[str]], str]
@@ -229,7 +229,7 @@ def solved(program: str, puzzle: Puzzle, given: Namespace) -> int:
         return 1
     answer = read_audited(found.text, problem)
     picture = picture_of(problem, [problem.options[place] for _, place in answer.chosen], False)
-    draw(given, planned_picture(picture, getattr(given, "plan", [])), puzzle.comments[0])
+    draw(given, with_plans(picture, getattr(given, "plan", [])), puzzle.comments[0])
     if isinstance(puzzle, Timetable) and puzzle.school and given.keep:
         complain(kept_words(puzzle, found.text, read_plan(given.keep, puzzle.school)))
     if not isinstance(puzzle, Timetable) and not given.one and given.out != "-":

@@ -22,11 +22,11 @@ import shutil
 import tempfile
 from typing import Iterable
 
-from .command_ends import run, stop
-from .command_words import as_called, number_from_one, parser_of
-from .fault_words import plural
-from .search_parts import LIST, MOST_PARTS, WHOLE, Split, list_text, part_name, path_in, read_tree, split, texts_of
-from .whole_files import umask
+from .command_line.ends import run, stop
+from .command_line.words import as_called, number_from_one, parser_of
+from .files.fault_words import plural
+from .files.whole_files import umask
+from .search.parts import LIST, MOST_PARTS, WHOLE, Split, list_text, part_name, path_in, read_tree, split, texts_of
 
 
 def number_of_parts(text: str) -> int:

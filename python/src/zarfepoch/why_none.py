@@ -22,21 +22,20 @@ from __future__ import annotations
 
 import itertools
 import subprocess
-import sys
 from collections.abc import Iterator
 from typing import Callable, Optional
 
-from .command_ends import complain, run, stop
-from .command_words import parser_of
-from .cover_files import Problem, read_problem, refusal, shown
-from .cover_reason import Named, Reason, clash
-from .draw_reason import reason_svg
-from .even_room import any_reason
-from .fault_words import listed, plural, quoted
-from .full_names import named_numbers
-from .picture_kinds import Matching, picture_of, Plain, Triples
+from .command_line.ends import complain, run, stop
+from .command_line.words import parser_of
+from .files.cover_files import Problem, read_problem, refusal, shown
+from .files.fault_words import listed, plural, quoted
+from .files.full_names import told_lines
+from .files.whole_files import Unreadable, read_bytes, write_out
+from .pictures.kinds import in_words
+from .pictures.reasons import reason_svg
 from .programs import is_program, known_program, missing_program
-from .whole_files import Unreadable, put, read_bytes
+from .reasons.cover_reason import Named, Reason, clash
+from .reasons.even_room import any_reason
 
 # the exit status and the first word of each answer
 NONE, COVER, SPENT, OUT_OF_MEMORY = (1, b"none"), (0, b"cover"), (4, b"no"), (5, b"")
@@ -96,17 +95,6 @@ def clash_always(problem: Problem, by_item: dict[bytes, list[int]], one: bytes, 
         clash(problem.options[a], problem.options[b]) for a in places[0] for b in places[1])
 
 
-def in_words(problem: Problem) -> Named:
-    """What items are called where the kind of the problem is known by their names; else their names."""
-    picture = picture_of(problem, [], True)
-
-    def named(name: bytes) -> str:
-        return picture.item_words(shown(name))
-
-    plain: Named = shown
-    return plain if isinstance(picture, (Matching, Plain, Triples)) else named
-
-
 def reasons(problem: Problem, kept: list[bytes], named: Named) -> Iterator[str]:
     """Lines that say in words why these items can't be covered together, where that is plain."""
     by_item, is_bare = problem.options_by_item(), named is shown
@@ -133,11 +121,6 @@ def explain(problem: Problem, kept: list[bytes], asked: int) -> Iterator[str]:
     yield from reasons(problem, kept, named)
 
 
-def told_lines(problem: Problem, lines: list[str]) -> list[str]:
-    """Lines for readers, and behind them what numbers in them mean."""
-    return lines + named_numbers(list(map(shown, problem.comments)), list(map(shown, problem.items)), lines)
-
-
 def put_lines(problem: Problem, lines: list[str]) -> None:
     """Prints these lines for readers."""
     print("\n".join(told_lines(problem, lines)))
@@ -155,18 +138,6 @@ def read(path: str) -> tuple[bytes, Problem]:
     return text, problem
 
 
-def draw(path: str, problem: Problem, reason: Reason) -> None:
-    """Writes the picture of a reason."""
-    svg = reason_svg(problem, reason)
-    if path == "-":
-        sys.stdout.buffer.write(svg.encode("utf-8"))
-        return
-    try:
-        put(path, svg)
-    except OSError as why:
-        stop(f"{path} can't be written: {why.strerror}", 3)
-
-
 def explain_reason(problem: Problem, reason: Reason, path: Optional[str]) -> int:
     """Prints why there is no cover, and draws it; the exit status."""
     if not reason.holds(problem):
@@ -174,7 +145,7 @@ def explain_reason(problem: Problem, reason: Reason, path: Optional[str]) -> int
     if path != "-":
         put_lines(problem, reason.words(problem, in_words(problem)))
     if path:
-        draw(path, problem, reason)
+        write_out(path, reason_svg(problem, reason))
     return 0
 
 

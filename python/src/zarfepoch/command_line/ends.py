@@ -1,0 +1,65 @@
+"""How the commands end: their exit status, and the line on standard error that tells why."""
+from __future__ import annotations
+
+import io
+import os
+import signal
+import sys
+from typing import Callable, NoReturn, Union
+
+from .words import as_called
+
+Status = Union[int, str, None]
+
+
+def complain(why: object) -> None:
+    """Writes a line on standard error, if that is open."""
+    if sys.stderr is not None:
+        print(as_called(f"{os.path.basename(sys.argv[0]).removesuffix('.py')}: {why}"), file=sys.stderr)
+
+
+def stop(why: object, status: int = 2) -> NoReturn:
+    """Ends the script with this status and tells why."""
+    complain(why)
+    sys.exit(status)
+
+
+def status_of(main: Callable[[], Status]) -> Status:
+    """The exit status of a main function, whether it returns it or ends the script."""
+    try:
+        return main()
+    except SystemExit as ended:
+        return ended.code
+
+
+def run(main: Callable[[], Status]) -> NoReturn:
+    """Runs a script's main function to its exit status.
+
+    A reader that goes away, as `head` does, ends it quietly, with status 3. Where the standard output is closed or takes no more, or
+    memory runs out, standard error has a line, too. A signal that ends it also ends the program that it runs; an interrupt is told nowhere.
+    """
+    if signal.getsignal(signal.SIGINT) is signal.SIG_DFL:
+        # (what starts a command leaves interrupts to the system until its modules are read)
+        signal.signal(signal.SIGINT, signal.default_int_handler)
+    signal.signal(signal.SIGTERM, lambda number, frame: sys.exit(128 + number))
+    if sys.stdout is None:
+        complain("the standard output can't be written: it is closed")
+        sys.exit(3)
+    if isinstance(sys.stdout, io.TextIOWrapper):
+        sys.stdout.reconfigure(errors="backslashreplace")
+    try:
+        status = status_of(main)
+        sys.stdout.flush()
+    except MemoryError:
+        complain("out of memory")
+        status = 3
+    except KeyboardInterrupt:
+        signal.signal(signal.SIGINT, signal.SIG_DFL)
+        os.kill(os.getpid(), signal.SIGINT)
+    except OSError as why:
+        # what is still buffered goes nowhere, so that the interpreter's own end doesn't fail once more
+        os.dup2(os.open(os.devnull, os.O_WRONLY), sys.stdout.fileno())
+        status = 3
+        if not isinstance(why, BrokenPipeError):
+            complain(f"the standard output can't be written: {why.strerror}")
+    sys.exit(status)
