@@ -121,6 +121,33 @@ def test_no_reason(trial: Solving, words: list[str], command: str, further: list
     assert status == 1 and told == ["There is no solution.", wanted, *further], f"{words}: {status} {lines} {errors}"
 
 
+# what is said where the program fails after so many answers, and the exit status
+FAILING = (
+    (["queens", "8"], 0, "ended with status 1, and wrote no answer", 3),
+    (["timetable", os.path.join(TOP, "examples", "school.csv"), "--seconds", "12"], 0, "ended with status 1, and wrote no answer", 3),
+    (["queens", "8"], 1, "Whether it is the only solution isn't known: the program", 0),
+    (["sudoku", SUDOKU.replace("5 3 . .", "5 3 . 2", 1)], 1, "There is no solution.", 1))
+
+
+@pytest.mark.parametrize("words, answers, told, wanted", FAILING, ids=[f"{words[0]} after {answers}" for words, answers, _, _ in FAILING])
+def test_failing(trial: Solving, words: list[str], answers: int, told: str, wanted: int) -> None:
+    """A program that ends with the status of `none`, as one does that can't be started, and writes nothing: nothing follows from that."""
+    count = trial.path("count", "0")
+    failing = trial.path("failing", f"#!/bin/sh\nn=$(cat {count})\necho $((n + 1)) > {count}\n[ $n -ge {answers} ] && exit 1\n"
+                         f"exec {trial.environment['ZARFEPOCH']} \"$@\"\n")
+    os.chmod(failing, 0o755)
+    status, lines, errors = trial.run(*in_files(trial, words), program=failing)
+    said = "\n".join(lines) + errors
+    assert status == wanted and told in said and "Traceback" not in errors, f"{words}: {status} {said}"
+    assert not any(claim in said for claim in ("There is no timetable", ONLY, OTHER, "More than one of its")), f"{words}: {said}"
+
+
+def test_launcher() -> None:
+    """The launcher of a clone without a kind."""
+    ended = subprocess.run([sys.executable, os.path.join(TOP, "scripts", "zarfepoch")], capture_output=True, text=True)
+    assert ended.returncode == 2 and "a KIND is missing" in ended.stderr and "Traceback" not in ended.stderr, ended.stderr
+
+
 # what has no answer, and what is told of the files that aren't written
 UNWRITTEN = (
     (["dominoes", "4x4", "--without", "0,0", "3,3", "--out", "FOLDER/none"], "No picture was written, since there is no solution; --problem FILE.dlx "

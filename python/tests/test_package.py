@@ -391,6 +391,15 @@ def test_stub_answers(tmp_path: pathlib.Path, status: int, output: str, kind: ty
     assert (MISSING in str(found)) == (status == 6), f"what the audit found, of {found}"
 
 
+@pytest.mark.parametrize("output", ("", "none\nweights"))
+def test_stub_reasons(tmp_path: pathlib.Path, output: str) -> None:
+    """Programs that end with the status of a reason, and write none."""
+    path = tmp_path / "stub"
+    path.write_text(f"#!/bin/sh\ncat > /dev/null\nprintf '{output}'\nexit 1\n", encoding="ascii")
+    path.chmod(0o755)
+    with_program(str(path), lambda: raised(zarfepoch.ProgramError, lambda: zarfepoch.reasons([["a"], ["b"]], ["a", "b"])))
+
+
 def with_program(path: str, call: Callable[[], Called]) -> Called:
     """Calls with this program in place of ours."""
     ours = os.environ["ZARFEPOCH"]

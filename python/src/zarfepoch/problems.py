@@ -212,9 +212,12 @@ class Problem:
         if (status, answer) == (4, ["no reason found"]):
             found = even_room(problem, until)
             return self._named_reason(found) if found else None
-        if status != 1:
+        if status != 1 or answer[:1] != ["none"]:
             raise failure(status, why)
-        found = cover_reason.Reason("\n".join(answer).encode())
+        try:
+            found = cover_reason.Reason("\n".join(answer).encode())
+        except ValueError as what:
+            raise ProgramError(f"the program's reason can't be read: {what}", status) from None
         if not found.holds(problem):
             raise ProgramError("the program's reason doesn't hold", status)
         return self._named_reason(found)

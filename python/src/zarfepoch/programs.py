@@ -7,7 +7,7 @@ import shutil
 import subprocess
 from typing import NamedTuple, Optional
 
-from .errors import NoProgram
+from .errors import NoProgram, ProgramError
 
 CLONE = os.path.join(os.path.dirname(os.path.abspath(__file__)), "..", "..", "..")
 BUILT_HERE, UNPROVED_HERE = os.path.join(CLONE, "crates", "solve_cli", "out", "solve_cli"), os.path.join(CLONE, "unproved", "solve_cli")
@@ -52,15 +52,40 @@ def find_program() -> str:
 
 
 class Answered(NamedTuple):
-    """The program's exit status, what it wrote, and what it said on standard error."""
+    """The program's exit status, what it wrote, and what it said on standard error.
+
+    A status alone is no answer: with 1, that of `none`, much ends that fails before it has begun.
+    """
     status: int
     text: bytes
     why: str
 
+    @property
+    def is_cover(self) -> bool:
+        """Whether it is a cover."""
+        return self.status == 0 and self.text.startswith(b"cover ")
+
+    @property
+    def is_none(self) -> bool:
+        """Whether it is that there is no cover."""
+        return self.status == 1 and self.text.startswith(b"none\n")
+
+    @property
+    def is_open(self) -> bool:
+        """Whether it is that a limit was met before there was an answer."""
+        return self.status == 4 and self.text == b"no answer\n"
+
+    def failure(self, program: str) -> str:
+        """What is said of a program that answers nothing of these."""
+        return f"the program {program} ended with status {self.status}, and wrote no answer" + (f": {self.why}" if self.why else "")
+
 
 def asked(program: str, words: list[str], text: bytes) -> Answered:
-    """What the program answers to a problem on its standard input; an OSError where it can't be run."""
-    ran = subprocess.run([program, *words], input=text, capture_output=True)
+    """What the program answers to a problem on its standard input; `ProgramError` where it can't be run."""
+    try:
+        ran = subprocess.run([program, *words], input=text, capture_output=True)
+    except OSError as why:
+        raise ProgramError(f"the program {program} can't be run: {why.strerror}") from None
     return Answered(ran.returncode, ran.stdout, ran.stderr.decode(errors="replace").strip())
 
 

@@ -109,14 +109,14 @@ def asked_of_school(program: str, timetable: Timetable, given: Namespace) -> Ans
     of the time."""
     began, limit = time.monotonic(), given.seconds or 3 * TRY_SECONDS
     found = planned(program, timetable, bool(given.keep), (2 if given.keep else 1) * limit / 3)
-    if (found is None or found.status == 1) and timetable.school:
+    if (found is None or found.is_none) and timetable.school:
         # (where it is known that there is none, all of the time is for the reason)
         core = core_of(program, timetable.school, limit - (time.monotonic() - began) if found else limit / 3, found is not None)
         if core:
             print("There is no timetable. " + "\n".join(core_words(timetable.school, core)))
             return Answered(1, b"none\n", "")
     answer = found or answered(program, timetable.text(), given.seconds and max(1.0, given.seconds - (time.monotonic() - began)))
-    if answer.status == 1:
+    if answer.is_none:
         print("There is no timetable.")
     return answer
 
@@ -131,12 +131,15 @@ def told_waiting() -> Iterator[None]:
             complain(f"still looking, for {time.monotonic() - began:.0f} seconds now")
 
     thread = threading.Thread(target=tell, daemon=True)
-    thread.start()
+    with contextlib.suppress(RuntimeError):
+        # (where no thread can be started nothing is said meanwhile)
+        thread.start()
     try:
         yield
     finally:
         over.set()
-        thread.join()
+        if thread.ident is not None:
+            thread.join()
     if time.monotonic() - began >= WAITING:
         complain(f"this took {time.monotonic() - began:.0f} seconds")
 
@@ -145,10 +148,10 @@ def asked(program: str, puzzle: Puzzle, given: Namespace) -> Answered:
     """The program's answer; ends the command where there is none in time, or the program fails."""
     with told_waiting():
         found = asked_of_school(program, puzzle, given) if isinstance(puzzle, Timetable) else answered(program, puzzle.text(), given.seconds)
-    if found.status == 4:
+    if found.is_open:
         stop(f"no answer: {own_words(found.why)}" if found.why else "no answer", NO_ANSWER)
-    if not (found.status == 0 and found.text.startswith(b"cover ") or (found.status, found.text) == (1, b"none\n")):
-        stop(f"the program {program} ended with status {found.status}, and wrote no answer" + (f": {found.why}" if found.why else ""), 3)
+    if not (found.is_cover or found.is_none):
+        stop(found.failure(program), 3)
     if found.why:
         complain(found.why)
     return found
@@ -162,8 +165,13 @@ def only_words(program: str, problem: Problem, answer: bytes, seconds: Optional[
         return f"Whether it is the only solution can't be asked: that problem would have {too_large}."
     limit = seconds or OTHER_SECONDS
     found = answered(program, text, limit)
-    told = {0: "There is another solution; --all draws each.", 1: "It is the only solution."}
-    return told.get(found.status, f"Whether it is the only solution wasn't decided in {limit:g} second{'s' * (limit != 1)}; --seconds N gives more.")
+    if found.is_cover:
+        return "There is another solution; --all draws each."
+    if found.is_none:
+        return "It is the only solution."
+    if found.is_open:
+        return f"Whether it is the only solution wasn't decided in {limit:g} second{'s' * (limit != 1)}; --seconds N gives more."
+    return f"Whether it is the only solution isn't known: {found.failure(program)}."
 
 
 def draw(given: Namespace, picture: Kind, title: str) -> None:
@@ -185,7 +193,11 @@ def tell_none(program: str, puzzle: Puzzle, problem: Problem, given: Namespace, 
     neither is known, how a reason can be searched for."""
     print("There is no solution.", flush=True)
     left = OTHER_SECONDS if given.seconds is None else min(OTHER_SECONDS, given.seconds - (time.monotonic() - began))
-    reason = any_reason(program, puzzle.text(), problem, left)
+    try:
+        reason = any_reason(program, puzzle.text(), problem, left)
+    except (OSError, ValueError):
+        # (the program couldn't be run once more, or wrote something else: no reason is known)
+        reason = None
     is_told = reason is not None and reason.holds(problem)
     if reason and is_told:
         print("\n".join(told_lines(problem, reason.words(problem, in_words(problem)))))
@@ -221,7 +233,7 @@ def solved(program: str, puzzle: Puzzle, given: Namespace) -> int:
         return listed(program, puzzle, problem, given)
     began = time.monotonic()
     found = asked(program, puzzle, given)
-    if found.status == 1:
+    if found.is_none:
         if isinstance(puzzle, Timetable):
             tell_unwritten(given)
         else:
@@ -323,7 +335,10 @@ def solve_kind(given: Namespace, words: list[str]) -> int:
                 put(own.problem, puzzle.text().decode())
             except OSError as why:
                 stop(f"{own.problem} can't be written: {why.strerror}", 3)
-        statuses.append(solved(program, puzzle, own))
+        try:
+            statuses.append(solved(program, puzzle, own))
+        except ProgramError as why:
+            stop(why, 3)
     return max(statuses)
 
 

@@ -42,12 +42,15 @@ def count_of(program: str, change: Change, seconds: float) -> Optional[int]:
     except (PlainlyNone, NoSolution):
         return 0
     found = answered(program, puzzle.text(), seconds) if puzzle else None
-    if not puzzle or not found or found.status != 0:
-        return 0 if found and found.status == 1 else None
+    if not puzzle or not found or not found.is_cover:
+        return 0 if found and found.is_none else None
     problem = read_problem(puzzle.text())
     chosen = [problem.options[place].words for _, place in read_audited(found.text, problem).chosen]
     text, too_large = others_of(problem, [chosen], free_name(problem, b"other"))
-    return 1 if not too_large and answered(program, text, seconds).status == 1 else 2
+    if too_large:
+        return None
+    other = answered(program, text, seconds)
+    return 1 if other.is_none else 2 if other.is_cover else None
 
 
 def listed(words: Sequence[str]) -> str:

@@ -55,19 +55,21 @@ def fewer_moved(program: str, timetable: Timetable, released: set[str], found: A
     for name in sorted(released - timetable.unfit()):
         if time.monotonic() < limit:
             again = shortly(program, timetable.kept(released - {name}))
-            if again.status == 0:
+            if again.is_cover:
                 released, found = released - {name}, again
     return found
 
 
 def planned(program: str, timetable: Timetable, is_kept: bool, seconds: float) -> Optional[Answered]:
-    """The answer to the problem of a timetable, where it is found in so many seconds. Where a plan is kept, short searches come first, in which ever
-    more of its lessons may move; their `none` says nothing of the problem as it is."""
+    """The answer to the problem of a timetable, where it is found in so many seconds, or how the program failed. Where a plan is kept, short searches
+    come first, in which ever more of its lessons may move; their `none` says nothing of the problem as it is."""
     limit = time.monotonic() + seconds
     choices = movable(timetable, random.Random(1), seconds) if is_kept else iter(())
     for released in itertools.takewhile(lambda _: time.monotonic() < limit, choices):
         found = shortly(program, timetable.kept(released))
-        if found.status not in (1, 4):
+        if found.is_cover:
             return fewer_moved(program, timetable, released, found, limit)
+        if not (found.is_none or found.is_open):
+            return found
     found = answered(program, timetable.text(), max(1.0, limit - time.monotonic()))
-    return None if found.status == 4 else found
+    return None if found.is_open else found

@@ -63,7 +63,7 @@ class Questions:
                 found = timetables(some_of(self.school, lessons, without))
         except SystemExit as ended:
             return ended.code == 1
-        return any(answered(self.program, puzzle.text(), QUESTION).status == 1 for puzzle in found)
+        return any(answered(self.program, puzzle.text(), QUESTION).is_none for puzzle in found)
 
 
 def groups_of(school: School) -> Iterator[tuple[str, list[Lesson]]]:
