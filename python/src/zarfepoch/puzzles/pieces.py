@@ -210,7 +210,7 @@ def filled(cells: set[Cell], pieces: list[Piece], flips: bool = True) -> Puzzle:
     """The problem of a board and its pieces, all of which are used if they have as many cells as the board."""
     total = sum(piece.count * len(piece.cells) for piece in pieces)
     if total < len(cells):
-        no_cover(f"the pieces have {total} cells together, and the board has {len(cells)}")
+        no_cover(f"the pieces have {total} cells together, and the board has {len(cells)}; a number before a piece is how many there are, as in 12*I2")
     if not can_have(pieces, len(cells)):
         no_cover(f"the board has {len(cells)} cells, and no choice of these pieces has as many")
     board, names = sorted(cells), cell_names(cells)

@@ -290,7 +290,7 @@ def checked(path: str, sudoku: Sudoku, lines: list[int] | None) -> Sudoku:
 
 def is_typed(given: str) -> bool:
     """Whether a sudoku is on the command line itself, and not in a file."""
-    return bool(re.fullmatch(r"[0-9._*?\s-]{4,}|[0-9._\s]+|[0-9A-Pa-p._\s]{16,}", given)) and not os.path.exists(given)
+    return bool(re.fullmatch(r"[0-9._*?xX\s-]{4,}|[0-9._\s]+|[0-9A-Pa-p._\s]{16,}", given)) and not os.path.exists(given)
 
 
 def sudoku_of(rows: list[str]) -> Puzzle:

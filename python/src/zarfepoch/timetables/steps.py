@@ -259,8 +259,10 @@ def named_lesson(lesson: Lesson) -> str:
 
 
 def named_some(hours: list[Hour]) -> str:
-    """Lessons for a message."""
-    names = [named_lesson(lesson) for lesson in {id(hour.lesson): hour.lesson for hour in hours}.values()]
+    """Lessons for a message, and of each how many of its times these are, if not all."""
+    lessons = {id(hour.lesson): hour.lesson for hour in hours}
+    counts = {own: len({id(hour) for hour in hours if id(hour.lesson) == own}) for own in lessons}
+    names = [("" if counts[own] == lesson.times else f"{counts[own]} of ") + named_lesson(lesson) for own, lesson in lessons.items()]
     return ", ".join(names[:6]) + (f" and {len(names) - 6} more" if len(names) > 6 else "")
 
 
