@@ -89,8 +89,10 @@ def test_interrupt_while_modules_are_read(tmp_path: pathlib.Path, module: str) -
     """An interrupt ends a command without a word, whichever of the modules that the package uses are read as yet."""
     (tmp_path / f"{module}.py").write_text("import os, signal\nos.kill(os.getpid(), signal.SIGINT)\n", encoding="ascii")
     before = signal.signal(signal.SIGINT, signal.default_int_handler)
-    ended = subprocess.run([sys.executable, LAUNCHER, "--help"], capture_output=True, env={**os.environ, "PYTHONPATH": str(tmp_path)})
-    signal.signal(signal.SIGINT, before)
+    try:
+        ended = subprocess.run([sys.executable, LAUNCHER, "--help"], capture_output=True, env={**os.environ, "PYTHONPATH": str(tmp_path)})
+    finally:
+        signal.signal(signal.SIGINT, before)
     assert (ended.returncode, ended.stdout, ended.stderr) == (-signal.SIGINT, b"", b""), f"{module}: {ended}"
 
 

@@ -204,7 +204,8 @@ class Problem:
             yield from (sorted(kept[place] for place in cover) for cover in found)
 
     def reason(self, seconds: Optional[float] = None) -> Optional[Reason]:
-        """Why there is no cover, if the program finds a reason without a search, or counting items that are alike does. None says nothing."""
+        """Why there is no cover, if the program finds a reason without a search, or counting items that are alike does. None says nothing. `TimeIsUp` where
+        neither comes to its end in so many seconds."""
         limit = checked_seconds(seconds)
         until = None if limit is None else time.monotonic() + limit
         status, answer, why = self._ask(["why", "-"], self._numbered_lines(), seconds)

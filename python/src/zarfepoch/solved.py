@@ -13,7 +13,7 @@ The kinds are %KINDS%;
                                                     --grid WEEK.csv writes them as people read them, and --out-dir FOLDER each into files of its own
 
 Of each kind but timetables it is said whether the answer is the only one; --one leaves that out. Where there is no answer, it says why, if a reason
-is found without a search in what is left of N seconds, and what may be mistyped: the puzzle is tried without each of its digits, sums or signs, for N
+is found without a search in what is left of N seconds, ten at most, and what may be mistyped: the puzzle is tried without each of its digits, sums or signs, for N
 seconds in all (5 where none are told). With --seconds N each search ends after N seconds; without, the first goes on until it is decided, and the one
 for another answer for 10 seconds. --all draws each solution, and --count says how many there are, or how many were found in N seconds. A timetable is
 looked for by many short searches first, since one in which the first choices are wrong seldom ends. --problem FILE keeps the problem that the program

@@ -80,14 +80,15 @@ class Kind:
         return [item for item in self.items if item not in self.primary]
 
     @functools.cached_property
-    def added(self) -> int:
-        """What is added to rows and columns so that they count from 1: nothing where no cell has a 0, unless the package has made the problem."""
+    def offset(self) -> int:
+        """What is added to rows and columns so that they count from 1: nothing where no cell has a 0, unless the package has made the problem, which its
+        comment says."""
         return int(any(MADE in comment for comment in self.comments) or any(0 in cell for cell in map(cell_of, self.items) if cell))
 
     def item_words(self, item: str) -> str:
         """What an item is in the words of the kind; its name where nothing better is known."""
         cell = cell_of(item)
-        return cell_words(cell, self.added) if cell else item
+        return cell_words(cell, self.offset) if cell else item
 
     def lines(self) -> list[str]:
         """The answer as lines of text."""

@@ -27,7 +27,7 @@ class Kakuro(Kind):
                 all(re.fullmatch(r"[ad]\d+\.[1-9]", name) for name in option[1:])]
 
     @property
-    def added(self) -> int:
+    def offset(self) -> int:
         # (a clue may stand in the row and the column 0, where no cell is white)
         return 1
 
@@ -129,7 +129,7 @@ class Stars(Kind):
             max(known_cell(name)) for colours in self.option_colours for name in colours) < LARGEST
 
     def item_words(self, item: str) -> str:
-        return line_words(item, self.added) or super().item_words(item.lstrip("s"))
+        return line_words(item, self.offset) or super().item_words(item.lstrip("s"))
 
     def regions(self) -> dict[Cell, str]:
         """The region of each cell, by its options."""
@@ -167,7 +167,7 @@ class Nonogram(Kind):
             colour in ("black", "white") for colours in self.option_colours for colour in colours.values())
 
     def item_words(self, item: str) -> str:
-        return line_words(item, self.added) or super().item_words(item)
+        return line_words(item, self.offset) or super().item_words(item)
 
     def cells(self) -> set[Cell]:
         return {known_cell(item) for item in self.secondary()}
@@ -222,7 +222,7 @@ class Words(Kind):
     def item_words(self, item: str) -> str:
         found = re.fullmatch(r"(across|down)(\d+)", item)
         if found and not self.numbers():
-            return f"the word in {'row' if found[1] == 'across' else 'column'} {int(found[2]) + self.added}"
+            return f"the word in {'row' if found[1] == 'across' else 'column'} {int(found[2]) + self.offset}"
         return f"{found[2]} {found[1]}" if found else super().item_words(item)
 
     def cells(self) -> set[Cell]:

@@ -35,11 +35,11 @@ class Queens(Kind):
             {"r", "c"} <= {name[0] for name in option} for option in self.options)
 
     @functools.cached_property
-    def added(self) -> int:
+    def offset(self) -> int:
         return int(any(item[0] in "rc" and int(item[1:]) == 0 for item in self.items))
 
     def item_words(self, item: str) -> str:
-        return {"r": "row", "c": "column"}.get(item[0], "diagonal") + f" {int(item[1:]) + self.added}"
+        return {"r": "row", "c": "column"}.get(item[0], "diagonal") + f" {int(item[1:]) + self.offset}"
 
     def places(self) -> tuple[list[int], list[int], set[Cell]]:
         """The rows, the columns, and where queens stand."""

@@ -93,7 +93,7 @@ def draw_groups(paper: Paper, cells: dict[bytes, Cell], groups: list[Group]) -> 
 
 
 def reason_svg(problem: Problem, reason: Reason) -> str:
-    """The picture of a reason as SVG; of cases that of the first one."""
+    """The picture of a reason as SVG. Of several, one for each option of an item, it is that of the first: its line below says how many there are."""
     cells, groups = board_of(problem), groups_of(next(iter(reason.cases.values()), reason))
     if not any(name in cells for group in groups for name in group.names):
         cells = {}
