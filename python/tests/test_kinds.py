@@ -142,6 +142,14 @@ def test_failing(trial: Solving, words: list[str], answers: int, told: str, want
     assert not any(claim in said for claim in ("There is no timetable", ONLY, OTHER, "More than one of its")), f"{words}: {said}"
 
 
+@pytest.mark.parametrize("word, told", (("sudoko", "; did you mean sudoku?\n"), ("answer", "; answer is a command of the program: solve_cli answer ..\n"),
+                                        ("q", ")\n")))
+def test_unknown_kinds(trial: Solving, word: str, told: str) -> None:
+    """What is said of a word that is no kind."""
+    status, _, errors = trial.run(word, "x")
+    assert status == 2 and errors.endswith(told), f"{word}: {errors}"
+
+
 def test_launcher() -> None:
     """The launcher of a clone without a kind."""
     ended = subprocess.run([sys.executable, os.path.join(TOP, "scripts", "zarfepoch")], capture_output=True, text=True)

@@ -2,12 +2,18 @@
 from __future__ import annotations
 
 import argparse
+import difflib
 import re
 import sys
-from typing import Optional
+from typing import NoReturn, Optional
 
 
 TOOL = re.compile(r"\bzarfepoch-(another|check-certificate|check-reason|draw|explain|generate|join|split|why-none)\b")
+
+
+# what the parser says of a word that it doesn't know; commands of the program, which are no kinds of puzzles
+UNKNOWN = re.compile(r"invalid choice: '([^']*)' \(choose from (.*)\)$")
+OF_PROGRAM = ("answer", "alone", "check", "learn", "simulate", "solve", "why")
 
 
 def as_called(text: str) -> str:
@@ -22,9 +28,26 @@ def as_called(text: str) -> str:
     return text
 
 
+def meant_by(word: str, choices: list[str]) -> str:
+    """What may be meant by a word that is none of these, for the end of a message."""
+    if word in OF_PROGRAM:
+        return f"; {word} is a command of the program: solve_cli {word} .."
+    near = difflib.get_close_matches(word, choices, 1)
+    return f"; did you mean {near[0]}?" if near else ""
+
+
+class CommandLine(argparse.ArgumentParser):
+    """A command line that says what may be meant by a word that it doesn't know."""
+
+    def error(self, message: str) -> NoReturn:
+        """Ends the command with status 2 and tells why."""
+        found = UNKNOWN.search(message)
+        super().error(message + (meant_by(found[1], re.findall(r"[\w-]+", found[2])) if found else ""))
+
+
 def parser_of(text: Optional[str]) -> argparse.ArgumentParser:
     """A command line whose help is this text as it stands."""
-    return argparse.ArgumentParser(description=as_called(text or ""), formatter_class=argparse.RawDescriptionHelpFormatter)
+    return CommandLine(description=as_called(text or ""), formatter_class=argparse.RawDescriptionHelpFormatter)
 
 
 def number_from_one(text: str) -> int:
