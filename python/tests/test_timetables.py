@@ -292,10 +292,10 @@ IMPOSSIBLE = (
     ("a double lesson and one on each day", "maths;ann;5a;;Mon-Tue1-2;2;;1;;;\nart;bob;5a;;Mon-Tue1-2;1;2;;;;\nmusic;cy;5b;;Mon1;1;;;;;\n", "",
      "Of 5a: these 2 rows can't be together:\n  line 2: maths 2, at most 1 a day (ann; 5a), Mon1-2 Tue1-2\n  line 3: art 1 x 2 (bob; 5a), Mon1-2 Tue1-2"),
     ("a day with too many lessons", "".join(f"{one};{one}{one};5a;;Mon1-2 {day}1-2;2;;1;;;\n" for one, day in zip("abc", ("Tue", "Wed", "Thu"))), "",
-     "lines 2, 3, 4: there is no timetable: 5a has 3 periods of lessons that have to be on Mon (a 2, b 2, c 2), since their other days are too few, and only 2 "
+     "lines 2, 3, 4: there is no timetable: 5a has 3 periods of lessons that have to be on Mon (1 of a 2, 1 of b 2, 1 of c 2), since their other days are too few, and only 2 "
      "there: Mon1-2"),
     ("a day with too many lessons of a teacher", "".join(f"{one};ann;5{one};;Mon1-3 {day}1-2;2;;1;;;\n" for one, day in zip("abc", ("Tue", "Wed", "Thu"))),
-     "ann;;;2;\n", "ann has 3 periods of lessons that have to be on Mon (a 2, b 2, c 2), since their other days are too few, and at most 2 (line 3 of the rules)"),
+     "ann;;;2;\n", "ann has 3 periods of lessons that have to be on Mon (1 of a 2, 1 of b 2, 1 of c 2), since their other days are too few, and at most 2 (line 3 of the rules)"),
     ("a lesson that is fixed", "maths;ann;5a;;Mon-Tue1-2;2;;1;;Mon1;\nart;bob;5a;;Mon-Tue1-2;1;2;;;;\n", "",
      "  line 2: maths 2, at most 1 a day (ann; 5a), Mon1-2 Tue1-2, fixed at Mon1\n"),
     ("a room's rule", "a;gross;5a;hall;Mon-Tue1-3;3;;;;;\nb;bob;5b;;Mon-Tue1-3;1;;;;;\n", "hall;Mon1 Tue1;;;\n",
