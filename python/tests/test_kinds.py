@@ -150,6 +150,12 @@ def test_unknown_kinds(trial: Solving, word: str, told: str) -> None:
     assert status == 2 and errors.endswith(told), f"{word}: {errors}"
 
 
+def test_plan_of_nobody(trial: Solving) -> None:
+    """A plan of a name that nobody has is refused before the program is asked."""
+    status, _, errors = trial.run("timetable", os.path.join(TOP, "examples", "school.csv"), "--plan", "nowak", program="/bin/false")
+    assert status == 2 and "'nowak' is none of these" in errors, errors
+
+
 def test_launcher() -> None:
     """The launcher of a clone without a kind."""
     ended = subprocess.run([sys.executable, os.path.join(TOP, "scripts", "zarfepoch")], capture_output=True, text=True)

@@ -229,6 +229,9 @@ def tell_changes(program: str, changes: list[Change], seconds: Optional[float]) 
 def solved(program: str, puzzle: Puzzle, given: Namespace) -> int:
     """Answers one problem and draws it; the exit status."""
     problem = read_problem(puzzle.text())
+    if getattr(given, "plan", []):
+        # (a plan of nobody is refused before the search)
+        with_plans(picture_of(problem, [], False), given.plan)
     if getattr(given, "all", False) or getattr(given, "count", False):
         return listed(program, puzzle, problem, given)
     began = time.monotonic()
