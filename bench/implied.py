@@ -3,7 +3,7 @@
 
     python3 bench/implied.py [--seeds N] [--seconds N] [--kind KIND ..] [--write FOLDER]
 
-The kinds, which other programs once decided ten times as fast, or alone. With a cover: `class`, one class with 30 lessons in 30 periods, which are
+The kinds, most of problems which other programs once decided ten times as fast, or alone. With a cover: `class`, one class with 30 lessons in 30 periods, which are
 secondary, and seven teachers; `school`, three such classes with 25; `full`, up to ten; `tight`, three or eight with no more teachers than classes;
 `rooms`, five classes that share five rooms; `quasigroup`, a square of 30 rows with 325 empty cells; `killer`, a killer sudoku without given digits;
 `boxes`, Conway's cube of five rows. Without one: `over`, eight classes, one of whose teachers has 26 lessons in 25 periods; `edges`, the edges of a

@@ -1,4 +1,4 @@
-"""Makers of problems that other programs once decided ten times as fast as this one, or alone; the kinds of implied.py.
+"""Makers of problems, most of which other programs once decided ten times as fast as this one, or alone; the kinds of implied.py.
 
 What decides most of them is implied by their files: secondary items that each cover uses, and options of which each two clash. The others have covers
 that are found by learning from dead ends.
