@@ -9,5 +9,5 @@ pub enum Kernel<'a> {
     /// Options as columns of linked nodes.
     Links(Links<'a>),
     /// Sets of live options, level by level.
-    Rows(LiveSets<'a>),
+    Sets(LiveSets<'a>),
 }

@@ -30,13 +30,13 @@ impl<'a> Kernel<'a> {
         Ok(Kernel::Links(Links::build(alloc, problem)?))
     }
 
-    /// Live rows over the tables' sets, or links where there are none; the only error is out of memory.
+    /// Live options over the tables' sets, or links where there are none; the only error is out of memory.
     pub fn of_tables(alloc: Global, tables: &'a Tables<'a>) -> Result<Kernel<'a>, AllocError>
         ensures problem { IfOk result (λ kernel. (choices_in kernel).problem ≡ tables.now) }
         ensures chosen { IfOk result (λ kernel. (choices_in kernel).chosen ≡ []) }
     {
         match tables.sets() {
-            Some(sets) => Ok(Kernel::Rows(LiveSets::build(alloc, sets)?)),
+            Some(sets) => Ok(Kernel::Sets(LiveSets::build(alloc, sets)?)),
             None => Kernel::linked(alloc, tables.problem()),
         }
     }
@@ -48,7 +48,7 @@ impl<'a> Kernel<'a> {
     {
         match self {
             Kernel::Links(links) => links.problem(),
-            Kernel::Rows(rows) => rows.problem(),
+            Kernel::Sets(sets) => sets.problem(),
         }
     }
 
@@ -60,7 +60,7 @@ impl<'a> Kernel<'a> {
     {
         match self {
             Kernel::Links(links) => links.chosen(),
-            Kernel::Rows(rows) => rows.chosen(),
+            Kernel::Sets(sets) => sets.chosen(),
         }
     }
 
@@ -77,7 +77,7 @@ impl<'a> Kernel<'a> {
         // (asked once for a search and not at each visit: each arm has a loop of its own)
         match self {
             Kernel::Links(links) => visit_below(links, prefix, fuel, watch),
-            Kernel::Rows(rows) => visit_below(rows, prefix, fuel, watch),
+            Kernel::Sets(sets) => visit_below(sets, prefix, fuel, watch),
         }
     }
 
@@ -101,7 +101,7 @@ impl<'a> Kernel<'a> {
     {
         match self {
             Kernel::Links(links) => visit_below_keeping(links, prefix, fuel, watch, kept),
-            Kernel::Rows(rows) => visit_below_keeping(rows, prefix, fuel, watch, kept),
+            Kernel::Sets(sets) => visit_below_keeping(sets, prefix, fuel, watch, kept),
         }
     }
 
@@ -116,7 +116,7 @@ impl<'a> Kernel<'a> {
     {
         match self {
             Kernel::Links(links) => keep_shared(links, prefix, count, kept),
-            Kernel::Rows(rows) => keep_shared(rows, prefix, count, kept),
+            Kernel::Sets(sets) => keep_shared(sets, prefix, count, kept),
         }
     }
 
@@ -126,7 +126,7 @@ impl<'a> Kernel<'a> {
     {
         match self {
             Kernel::Links(links) => links.key_words(),
-            Kernel::Rows(rows) => rows.key_words(),
+            Kernel::Sets(sets) => sets.key_words(),
         }
     }
 }

@@ -16,7 +16,7 @@ use std::alloc::{AllocError, Global};
 use std::marker::Model;
 
 /// The room for states that suits a search by one thread, in bytes.
-pub const ROOM: u64 = 64 << 20;
+pub const TABLE_BYTES: u64 = 64 << 20;
 
 /// A search over one problem, by dancing links or over sets of live options.
 #[derive(Drop)]

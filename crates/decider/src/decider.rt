@@ -65,7 +65,7 @@ impl<'a> Decider<'a> {
         // (asked once for a search and not at each prefix: each arm has a recursion of its own)
         match &mut self.kernel {
             Kernel::Links(links) => decide(links, watch, trace, &mut self.kept, &mut steps),
-            Kernel::Rows(rows) => decide(rows, watch, trace, &mut self.kept, &mut steps),
+            Kernel::Sets(sets) => decide(sets, watch, trace, &mut self.kept, &mut steps),
         }
     }
 

@@ -7,14 +7,14 @@ use crate::packed::Packed;
 use crate::trail::{Cause, Trail, Truth};
 
 /// Chooses the most active option of which nothing is known. Returns false if there is none.
-pub fn decide(layout: &Layout, now: &mut Assignment, heap: &mut Heap) -> bool {
+pub fn decide(layout: &Layout, assigned: &mut Assignment, heap: &mut Heap) -> bool {
     for _ in 0..=u16::MAX {
         let Some(option) = heap.pop() else {
             return false;
         };
         let literal = Packed::chosen(option);
-        if now.trail.truth(literal) == Truth::Open {
-            choose(layout, now, option);
+        if assigned.trail.truth(literal) == Truth::Open {
+            choose(layout, assigned, option);
             return true;
         }
     }
@@ -28,7 +28,7 @@ pub enum Given {
     /// This one is to be chosen next.
     Next(u16),
     /// This one was left, as it can't be together with those before it.
-    Left(u16),
+    Excluded(u16),
 }
 
 /// Looks at given options, each of which has a level of its own from the first one on, whether it was decided there or followed before.
@@ -40,25 +40,25 @@ pub fn next_given(trail: &mut Trail, given: &[u16]) -> Given {
         match trail.truth(Packed::chosen(*option)) {
             Truth::True => trail.begin_level(),
             Truth::Open => return Given::Next(*option),
-            Truth::False => return Given::Left(*option),
+            Truth::False => return Given::Excluded(*option),
         }
     }
     Given::Chosen
 }
 
 /// Chooses an option of which nothing is known.
-pub fn choose(layout: &Layout, now: &mut Assignment, option: u16) {
-    now.trail.begin_level();
-    now.set(layout, Packed::chosen(option), Cause::Decision);
+pub fn choose(layout: &Layout, assigned: &mut Assignment, option: u16) {
+    assigned.trail.begin_level();
+    assigned.set(layout, Packed::chosen(option), Cause::Decision);
 }
 
 /// Takes back all above a level.
-pub fn go_back(layout: &Layout, now: &mut Assignment, heap: &mut Heap, level: u16) {
+pub fn go_back(layout: &Layout, assigned: &mut Assignment, heap: &mut Heap, level: u16) {
     for _ in 0..u16::MAX {
-        let Some(literal) = now.take_back(layout, level) else {
+        let Some(literal) = assigned.take_back(layout, level) else {
             break;
         };
         heap.insert(literal.option());
     }
-    now.trail.end_levels(level);
+    assigned.trail.end_levels(level);
 }

@@ -77,7 +77,7 @@ fn told(
         }
         End::Refuted => Ok(refuted(problem, learner)),
         // (none was given, so none was left)
-        End::Left(_) | End::Stopped => Ok(Found::Stopped),
+        End::Excluded(_) | End::Stopped => Ok(Found::Stopped),
     }
 }
 

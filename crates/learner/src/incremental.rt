@@ -95,7 +95,7 @@ impl<'a> IncrementalLearner<'a> {
                 let is_refuted = self.learner.is_refuted();
                 Ok(none_with(self.learner.problem(), given, is_refuted))
             }
-            End::Left(option) => {
+            End::Excluded(option) => {
                 let is_denied = self.learner.denies(given, option)?;
                 Ok(none_with(self.learner.problem(), given, is_denied))
             }

@@ -40,7 +40,7 @@ pub enum End {
     /// The empty clause was learned.
     Refuted,
     /// Of the given options this one can't be together with others.
-    Left(u16),
+    Excluded(u16),
     /// The watch stopped it, there was no room for a clause, or the kernel refused one.
     Stopped,
 }
@@ -50,7 +50,7 @@ pub enum End {
 pub struct Learner<'a> {
     alloc: Global,
     layout: Layout,
-    now: Assignment,
+    assigned: Assignment,
     watches: Watches,
     store: Store,
     heap: Heap,
@@ -115,7 +115,7 @@ impl<'a> Learner<'a> {
         let activities = first_activities(alloc, &layout, settings.seed)?;
         Ok(Learner {
             alloc,
-            now: Assignment {
+            assigned: Assignment {
                 trail: Trail::new(alloc, problem.options())?,
                 counts: Counts::new(alloc, &layout)?,
             },
@@ -148,13 +148,13 @@ impl<'a> Learner<'a> {
     fn settle<W: LearnerWatch>(&mut self, watch: &mut W) -> Result<bool, AllocError>
         ensures { self.new ≡ self.old }
     {
-        for place in self.settled..self.now.trail.literals().len() {
-            let literal = at(self.now.trail.literals(), place, Packed::NONE);
+        for place in self.settled..self.assigned.trail.literals().len() {
+            let literal = at(self.assigned.trail.literals(), place, Packed::NONE);
             if !self.settle_one(literal, watch)? {
                 return Ok(false);
             }
         }
-        self.settled = self.now.trail.literals().len();
+        self.settled = self.assigned.trail.literals().len();
         Ok(true)
     }
 
@@ -169,7 +169,7 @@ impl<'a> Learner<'a> {
         if self.proof.is_settled(literal.option()) {
             return Ok(true);
         }
-        let cause = self.now.trail.step(literal.option()).cause;
+        let cause = self.assigned.trail.step(literal.option()).cause;
         self.hint_settled(cause, literal)?;
         self.proof
             .learn_unit(self.alloc, literal, &self.hints, watch)
@@ -215,26 +215,26 @@ impl<'a> Learner<'a> {
     {
         self.analysis.analyse(
             &self.layout,
-            &self.now.trail,
+            &self.assigned.trail,
             &mut self.store,
             &mut self.heap,
             falsified,
         )?;
         hint_learned(
             &self.analysis,
-            &self.now.trail,
+            &self.assigned.trail,
             &self.store,
             &self.proof,
             falsified,
             &mut self.hints,
         )?;
-        let glue = self.analysis.glue(&self.now.trail);
-        let level = self.analysis.level_before(&self.now.trail);
-        go_back(&self.layout, &mut self.now, &mut self.heap, level);
+        let glue = self.analysis.glue(&self.assigned.trail);
+        let level = self.analysis.level_before(&self.assigned.trail);
+        go_back(&self.layout, &mut self.assigned, &mut self.heap, level);
         self.heap.decay();
         let first = at(self.analysis.learned(), 0, Packed::NONE);
         if self.analysis.learned().len() < 2 {
-            self.now.set(&self.layout, first, Cause::Decision);
+            self.assigned.set(&self.layout, first, Cause::Decision);
             return self.proof.learn_unit(self.alloc, first, &self.hints, watch);
         }
         self.keep(first, glue, watch)
@@ -258,7 +258,8 @@ impl<'a> Learner<'a> {
         let number = self.store.add(self.analysis.learned(), place, glue)?;
         self.watches.reserve(self.store.bound())?;
         watch_first_two(&self.store, &mut self.watches, number);
-        self.now.set(&self.layout, first, Cause::Clause(number));
+        self.assigned
+            .set(&self.layout, first, Cause::Clause(number));
         Ok(true)
     }
 
@@ -271,7 +272,7 @@ impl<'a> Learner<'a> {
         }
         reduce(
             self.alloc,
-            &self.now.trail,
+            &self.assigned.trail,
             &mut self.store,
             &mut self.watches,
             &mut self.proof,
@@ -285,7 +286,7 @@ impl<'a> Learner<'a> {
     fn restart(&mut self)
         ensures { self.new ≡ self.old }
     {
-        go_back(&self.layout, &mut self.now, &mut self.heap, 0);
+        go_back(&self.layout, &mut self.assigned, &mut self.heap, 0);
         self.restarts.begin(self.figures.conflicts);
         self.figures.restarts = self.figures.restarts.wrapping_add(1);
     }
@@ -300,7 +301,7 @@ impl<'a> Learner<'a> {
     {
         self.figures.conflicts = self.figures.conflicts.wrapping_add(1);
         self.store.meet(self.figures.conflicts);
-        if self.now.trail.level() == 0 {
+        if self.assigned.trail.level() == 0 {
             return Ok(Some(self.refute(falsified, watch)?));
         }
         if !self.learn_from(falsified, watch)? {
@@ -313,10 +314,10 @@ impl<'a> Learner<'a> {
     fn go_on<W: LearnerWatch>(&mut self, watch: &mut W) -> Result<Option<End>, AllocError>
         ensures { self.new ≡ self.old }
     {
-        if self.now.trail.level() == 0 && !self.settle(watch)? {
+        if self.assigned.trail.level() == 0 && !self.settle(watch)? {
             return Ok(Some(End::Stopped));
         }
-        if self.restarts.is_due(self.figures.conflicts) && self.now.trail.level() > 0 {
+        if self.restarts.is_due(self.figures.conflicts) && self.assigned.trail.level() > 0 {
             self.restart();
             return Ok(None);
         }
@@ -330,11 +331,11 @@ impl<'a> Learner<'a> {
     fn decide_next(&mut self) -> Option<End>
         ensures { self.new ≡ self.old }
     {
-        match next_given(&mut self.now.trail, &self.given) {
-            Given::Next(option) => choose(&self.layout, &mut self.now, option),
-            Given::Left(option) => return Some(End::Left(option)),
+        match next_given(&mut self.assigned.trail, &self.given) {
+            Given::Next(option) => choose(&self.layout, &mut self.assigned, option),
+            Given::Excluded(option) => return Some(End::Excluded(option)),
             Given::Chosen => {
-                if !decide(&self.layout, &mut self.now, &mut self.heap) {
+                if !decide(&self.layout, &mut self.assigned, &mut self.heap) {
                     return Some(End::Assigned);
                 }
             }
@@ -349,7 +350,7 @@ impl<'a> Learner<'a> {
     {
         let falsified = propagate(
             &self.layout,
-            &mut self.now,
+            &mut self.assigned,
             &mut self.watches,
             &mut self.store,
         );
@@ -378,10 +379,10 @@ impl<'a> Learner<'a> {
     pub fn begin(&mut self, given: &[u16]) -> Result<(), AllocError>
         ensures { self.new ≡ self.old }
     {
-        if self.now.trail.level() > 0 {
-            go_back(&self.layout, &mut self.now, &mut self.heap, 0);
+        if self.assigned.trail.level() > 0 {
+            go_back(&self.layout, &mut self.assigned, &mut self.heap, 0);
             // (a search that was stopped may have left items of the levels that ended)
-            self.now.counts.clear_due();
+            self.assigned.counts.clear_due();
         }
         self.given.clear();
         self.analysis.collect_given(given, &mut self.given)
@@ -394,10 +395,10 @@ impl<'a> Learner<'a> {
         ensures barren { IfOk result (λ is_denied. is_denied ≡ true → IsBarren self.old given.now) }
     {
         self.analysis
-            .explain(&self.layout, &self.now.trail, &self.store, left)?;
+            .explain(&self.layout, &self.assigned.trail, &self.store, left)?;
         hint_explained(
             &self.analysis,
-            &self.now.trail,
+            &self.assigned.trail,
             &self.store,
             &self.proof,
             &mut self.hints,
@@ -416,7 +417,7 @@ impl<'a> Learner<'a> {
     pub fn chosen(&self) -> Result<Vec<u16>, AllocError> {
         let mut list = Vec::new(self.alloc);
         for option in 0..self.layout.options() {
-            if self.now.trail.truth(Packed::chosen(option)) == Truth::True {
+            if self.assigned.trail.truth(Packed::chosen(option)) == Truth::True {
                 list.push(option)?;
             }
         }

@@ -29,26 +29,26 @@ fn option_not_left(layout: &Layout, trail: &Trail, item: u16) -> Option<u16> {
 }
 
 /// Looks at an item of which one option or none is not left. Returns the clause that is falsified, if one is.
-fn look_at_item(layout: &Layout, now: &mut Assignment, item: u16) -> Option<Cause> {
-    if now.counts.is_covered(item) {
+fn look_at_item(layout: &Layout, assigned: &mut Assignment, item: u16) -> Option<Cause> {
+    if assigned.counts.is_covered(item) {
         return None;
     }
-    if now.counts.count(item) == 0 {
+    if assigned.counts.count(item) == 0 {
         return Some(Cause::Item(item));
     }
-    let option = option_not_left(layout, &now.trail, item)?;
+    let option = option_not_left(layout, &assigned.trail, item)?;
     let literal = Packed::chosen(option);
-    if now.trail.truth(literal) == Truth::Open {
-        now.set(layout, literal, Cause::Item(item));
+    if assigned.trail.truth(literal) == Truth::Open {
+        assigned.set(layout, literal, Cause::Item(item));
     }
     None
 }
 
 /// Looks at all items that are due.
-fn look_at_items(layout: &Layout, now: &mut Assignment) -> Option<Cause> {
+fn look_at_items(layout: &Layout, assigned: &mut Assignment) -> Option<Cause> {
     for _ in 0..u64::MAX {
-        let item = now.counts.take_due()?;
-        let falsified = look_at_item(layout, now, item);
+        let item = assigned.counts.take_due()?;
+        let falsified = look_at_item(layout, assigned, item);
         if falsified.is_some() {
             return falsified;
         }
@@ -57,10 +57,15 @@ fn look_at_items(layout: &Layout, now: &mut Assignment) -> Option<Cause> {
 }
 
 /// Leaves the other options of an item of a chosen option, but for those that give the item the same colour.
-fn leave_others(layout: &Layout, now: &mut Assignment, option: u16, own: Naming) -> Option<Cause> {
+fn leave_others(
+    layout: &Layout,
+    assigned: &mut Assignment,
+    option: u16,
+    own: Naming,
+) -> Option<Cause> {
     for other in layout.options_of(own.number) {
         let literal = Packed::left(other.number);
-        let truth = now.trail.truth(literal);
+        let truth = assigned.trail.truth(literal);
         if truth == Truth::True || other.number == option {
             continue;
         }
@@ -71,15 +76,15 @@ fn leave_others(layout: &Layout, now: &mut Assignment, option: u16, own: Naming)
         if truth == Truth::False {
             return Some(cause);
         }
-        now.set(layout, literal, cause);
+        assigned.set(layout, literal, cause);
     }
     None
 }
 
 /// Leaves all options that clash with a chosen one.
-fn leave_clashing(layout: &Layout, now: &mut Assignment, option: u16) -> Option<Cause> {
+fn leave_clashing(layout: &Layout, assigned: &mut Assignment, option: u16) -> Option<Cause> {
     for own in layout.items_of(option) {
-        let falsified = leave_others(layout, now, option, *own);
+        let falsified = leave_others(layout, assigned, option, *own);
         if falsified.is_some() {
             return falsified;
         }
@@ -111,7 +116,7 @@ fn rewatch(trail: &Trail, row: &mut [Packed], side: usize) -> Option<Packed> {
 /// Looks at a clause of which a watched literal became false.
 fn look_at_clause(
     layout: &Layout,
-    now: &mut Assignment,
+    assigned: &mut Assignment,
     watches: &mut Watches,
     store: &mut Store,
     node: u32,
@@ -123,24 +128,24 @@ fn look_at_clause(
     };
     let other = at(row, side ^ 1, Packed::NONE);
     watches.set_blocker(node, other);
-    let truth = now.trail.truth(other);
+    let truth = assigned.trail.truth(other);
     if truth == Truth::True {
         return Visit::Kept;
     }
-    if let Some(literal) = rewatch(&now.trail, row, side) {
+    if let Some(literal) = rewatch(&assigned.trail, row, side) {
         return Visit::Moved(literal);
     }
     if truth == Truth::False {
         return Visit::Falsified;
     }
-    now.set(layout, other, Cause::Clause(clause));
+    assigned.set(layout, other, Cause::Clause(clause));
     Visit::Kept
 }
 
 /// Looks at the clauses that watch a literal, which became false.
 fn visit_watches(
     layout: &Layout,
-    now: &mut Assignment,
+    assigned: &mut Assignment,
     watches: &mut Watches,
     store: &mut Store,
     literal: Packed,
@@ -153,12 +158,12 @@ fn visit_watches(
             return None;
         }
         let own = watches.node(node);
-        if now.trail.truth(own.blocker) == Truth::True {
+        if assigned.trail.truth(own.blocker) == Truth::True {
             previous = node;
             node = own.next;
             continue;
         }
-        match look_at_clause(layout, now, watches, store, node) {
+        match look_at_clause(layout, assigned, watches, store, node) {
             Visit::Kept => previous = node,
             Visit::Moved(to) => {
                 watches.unlink(literal, previous, own.next);
@@ -175,37 +180,37 @@ fn visit_watches(
 /// Does what follows from a literal that became true.
 fn follow(
     layout: &Layout,
-    now: &mut Assignment,
+    assigned: &mut Assignment,
     watches: &mut Watches,
     store: &mut Store,
     literal: Packed,
 ) -> Option<Cause> {
     if !literal.is_left() {
-        let falsified = leave_clashing(layout, now, literal.option());
+        let falsified = leave_clashing(layout, assigned, literal.option());
         if falsified.is_some() {
             return falsified;
         }
     }
-    visit_watches(layout, now, watches, store, literal.negated())
+    visit_watches(layout, assigned, watches, store, literal.negated())
 }
 
 /// Makes true all that follows from what is true. Returns a clause that is falsified, if one is; then some that follows may be left out.
 pub fn propagate(
     layout: &Layout,
-    now: &mut Assignment,
+    assigned: &mut Assignment,
     watches: &mut Watches,
     store: &mut Store,
 ) -> Option<Cause> {
     for _ in 0..u64::MAX {
-        let falsified = look_at_items(layout, now);
+        let falsified = look_at_items(layout, assigned);
         if falsified.is_some() {
-            now.counts.clear_due();
+            assigned.counts.clear_due();
             return falsified;
         }
-        let literal = now.trail.next()?;
-        let falsified = follow(layout, now, watches, store, literal);
+        let literal = assigned.trail.next()?;
+        let falsified = follow(layout, assigned, watches, store, literal);
         if falsified.is_some() {
-            now.counts.clear_due();
+            assigned.counts.clear_due();
             return falsified;
         }
     }

@@ -11,7 +11,7 @@ use crate::progress_watch::EndWatch;
 use crate::search_limits::SearchLimits;
 use crate::timed_watch::TimedWatch;
 use crate::unanswered::Unanswered;
-use brancher::{Finding, Outcome, ROOM, Searcher, Tables, Watch};
+use brancher::{Finding, Outcome, Searcher, TABLE_BYTES, Tables, Watch};
 use cover_problem::{Answer, Problem, in_order};
 use decider::Untraced;
 use std::alloc::{AllocError, Global};
@@ -50,7 +50,7 @@ pub(crate) fn fueled_answer<V: Watch>(
     ensures order { IfOk result (λ given. IfOk given (IsWritable problem.now)) }
 {
     let tables = Tables::build(alloc, problem)?;
-    let mut searcher = Searcher::keeping(alloc, &tables, ROOM)?;
+    let mut searcher = Searcher::keeping(alloc, &tables, TABLE_BYTES)?;
     match searcher.find_until(Vec::new(alloc), fuel, watch) {
         Ok(Some((finding, _visits))) => found_answer(alloc, problem, &finding, fuel),
         Ok(None) => Ok(Err(Unanswered::Time)),

@@ -13,7 +13,7 @@ ghost use Rattle.search_engines.specs.Alone.{answer_by};
 use crate::asking::searched_and_asked;
 use crate::looking::{EARLY, LookingWatch};
 use crate::stopwatch::Stopwatch;
-use brancher::{ROOM, Tables, Watch};
+use brancher::{TABLE_BYTES, Tables, Watch};
 use cover_problem::{Answer, Problem, in_order};
 use cover_reasons::{ReasonWatch, find_short_reason_until, holds_of};
 use decider::{Decider, Decision, Trace, Untraced};
@@ -58,7 +58,7 @@ pub(crate) fn searched<V: Watch, T: Trace>(
     ensures order { IfOk result (λ found. IfSome found (IsWritable tables.now)) }
 {
     let problem = tables.problem();
-    let mut decider = Decider::new(alloc, tables, ROOM)?;
+    let mut decider = Decider::new(alloc, tables, TABLE_BYTES)?;
     match decider.decide_traced(watch, trace) {
         Decision::Found => Ok(Some(Answer::Cover(in_order(alloc, problem, decider.found())?))),
         Decision::Barren(_) => Ok(Some(Answer::NoCover)),

@@ -13,7 +13,7 @@ use crate::looks::Looks;
 use crate::savings::{Savings, Shown};
 use crate::seat_receipts::Refused;
 use crate::turns::noted;
-use brancher::{Finding, Outcome, ROOM, Searcher};
+use brancher::{Finding, Outcome, Searcher, TABLE_BYTES};
 use cover_problem::Numbers;
 use node_core::{ActFault, Core, Event, Reply};
 use rand_core::utils::NextWord;
@@ -362,7 +362,7 @@ fn workers_of(plan: Plan) -> u64 {
 
 /// The room for states that one searcher of the run has: all of them together have what four searches by one thread have.
 pub fn room_for(plan: Plan) -> u64 {
-    (4 * ROOM / workers_of(plan).max(1)).min(ROOM)
+    (4 * TABLE_BYTES / workers_of(plan).max(1)).min(TABLE_BYTES)
 }
 
 /// Whether a thread ends whose event was refused, and why.

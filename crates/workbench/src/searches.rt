@@ -2,7 +2,7 @@
 //! the two which the program takes; it keeps the states that have no cover, or doesn't. `bench/searches.py` times it.
 
 use crate::words::text_of;
-use brancher::{Outcome, ROOM, Searcher, Tables};
+use brancher::{Outcome, Searcher, TABLE_BYTES, Tables};
 use cover_problem::Problem;
 use dlx_reader::read_problem;
 use std::alloc::{AllocError, Global};
@@ -47,7 +47,7 @@ fn searcher_over<'a>(
     is_kept: bool,
 ) -> Result<Searcher<'a>, AllocError> {
     if is_kept {
-        Searcher::keeping(alloc, tables, ROOM)
+        Searcher::keeping(alloc, tables, TABLE_BYTES)
     } else {
         Searcher::of_tables(alloc, tables)
     }

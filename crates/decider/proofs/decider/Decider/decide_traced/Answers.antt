@@ -15,12 +15,12 @@ invariant_of-self g c =
     let P : Problem → Type 0 = λ p. HaveNoCover p c.decide.new.kept.states in
     subst P (sym c.decide.ensures.problem) c.decide.ensures.kept
 
-pub decide-requires-in-Rows : goal.decide-requires-in-Rows
-decide-requires-in-Rows g c =
+pub decide-requires-in-Sets : goal.decide-requires-in-Sets
+decide-requires-in-Sets g c =
     let S : Kernel → Type 0 = λ s. HaveNoCover (choices_in s).problem c.self.inside.kept.states in
-    subst S c.in-Rows.is c.self.invariant
+    subst S c.in-Sets.is c.self.invariant
 
-pub invariant_of-self-in-Rows : goal.invariant_of-self-in-Rows
-invariant_of-self-in-Rows g c =
-    let P : Problem → Type 0 = λ p. HaveNoCover p c.decide-in-Rows.new.kept.states in
-    subst P (sym c.decide-in-Rows.ensures.problem) c.decide-in-Rows.ensures.kept
+pub invariant_of-self-in-Sets : goal.invariant_of-self-in-Sets
+invariant_of-self-in-Sets g c =
+    let P : Problem → Type 0 = λ p. HaveNoCover p c.decide-in-Sets.new.kept.states in
+    subst P (sym c.decide-in-Sets.ensures.problem) c.decide-in-Sets.ensures.kept
