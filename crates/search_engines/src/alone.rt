@@ -9,7 +9,7 @@ ghost use Rattle.search_engines.specs.Engines.{IsEnded, refuses_none};
 ghost use Rattle.search_engines.specs.Failures.{Tells, plain};
 ghost use Rattle.search_engines.specs.Output.{IsOutput, IsOutputOf, status_in};
 
-use crate::answering::{answer_within, fueled_answer};
+use crate::answering::answer_within;
 use crate::engine::{EngineEnd, Written, ended_with};
 use crate::failure::Failure;
 use crate::fault::EngineFault;
@@ -18,6 +18,7 @@ use crate::lines::write_given;
 use crate::progress_log::ProgressLog;
 use crate::progress_watch::{EndWatch, ProgressWatch};
 use crate::search_limits::SearchLimits;
+use crate::searching::fueled_answer;
 use brancher::Unwatched;
 use cover_problem::Problem;
 use dlx_reader::{Sink, Source};

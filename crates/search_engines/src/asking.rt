@@ -6,8 +6,9 @@ ghost use Rattle.dlx_reader.specs.Writing.{IsWritable};
 ghost use Rattle.search_engines.specs.Alone.{answer_by};
 ghost use Rattle.used_items.specs.Covers.{HaveSameCovers};
 
-use crate::deciding::{RootWatch, searched};
+use crate::deciding::RootWatch;
 use crate::looking::{LATE, LookingWatch};
+use crate::searching::searched;
 use crate::walk_watch::{ForProblem, WalkWatch};
 use brancher::{Tables, Watch};
 use cover_problem::{Answer, Problem, in_order};

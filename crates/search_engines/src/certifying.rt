@@ -7,17 +7,18 @@ ghost use Rattle.dlx_reader.specs.Writing.{IsWritable};
 ghost use Rattle.search_engines.specs.Alone.{AloneSaysWithin, IsGiven, answer_by, outcome_said, whole_outcome};
 ghost use Rattle.search_engines.specs.Output.{IsOutput, IsOutputOf, status_in};
 
-use crate::deciding::{RootWatch, ShortWatch, searched};
+use crate::deciding::{RootWatch, ShortWatch};
 use crate::engine::Written;
 use crate::fault::EngineFault;
 use crate::lines::{write_given, write_solution};
 use crate::progress_watch::EndWatch;
+use crate::searching::{counted_or_searched, searched};
 use crate::stopwatch::Stopwatch;
 use crate::unanswered::Unanswered;
 use brancher::{Tables, Watch};
 use cover_problem::{Answer, Problem};
 use cover_reasons::{Reason, find_reason_until, holds_of};
-use decider::{Trace, Untraced};
+use decider::Trace;
 use dlx_reader::Sink;
 use std::alloc::{AllocError, Global};
 use std::time::Clock;
@@ -76,7 +77,7 @@ pub fn certified_until<V: Watch, T: Trace + ReasonListener, C: Clock>(
     let tables = Tables::build(alloc, problem)?;
     let stopwatch = Stopwatch::new(clock);
     let mut short = ShortWatch { clock, stopwatch };
-    match searched(alloc, &tables, &mut short, &mut Untraced)? {
+    match counted_or_searched(alloc, &tables, &mut short)? {
         Some(Answer::Cover(options)) => Ok(Some(Answer::Cover(options))),
         // (once more, and aloud: most covers are found sooner, and lines about them would be thrown away)
         Some(Answer::NoCover) => searched(alloc, &tables, watch, listener),

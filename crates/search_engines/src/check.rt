@@ -12,13 +12,14 @@ ghost use Rattle.search_engines.specs.Engines.{IsEnded};
 ghost use Rattle.search_engines.specs.Failures.{Tells, plain};
 ghost use Rattle.search_engines.specs.Output.{IsOutput, IsOutputOf, status_in};
 
-use crate::answering::{answer_within, fueled_answer};
+use crate::answering::answer_within;
 use crate::engine::{EngineEnd, Written, ended_with};
 use crate::failure::{Failure, Unread};
 use crate::fault::EngineFault;
 use crate::input::read_given;
 use crate::lines::write_line;
 use crate::search_limits::SearchLimits;
+use crate::searching::fueled_answer;
 use crate::unanswered::Unanswered;
 use brancher::Unwatched;
 use cover_problem::{Answer, Problem, Verdict, check_cover};

@@ -12,11 +12,11 @@ ghost use Rattle.search_engines.specs.Alone.{answer_by};
 
 use crate::asking::searched_and_asked;
 use crate::looking::{EARLY, LookingWatch};
+use crate::searching::counted_or_searched;
 use crate::stopwatch::Stopwatch;
-use brancher::{TABLE_BYTES, Tables, Watch};
-use cover_problem::{Answer, Problem, in_order};
+use brancher::{Tables, Watch};
+use cover_problem::{Answer, Problem};
 use cover_reasons::{ReasonWatch, find_short_reason_until, holds_of};
-use decider::{Decider, Decision, Trace, Untraced};
 use std::alloc::{AllocError, Global};
 use std::time::{Clock, Duration};
 use used_items::is_excluded_by_used_items;
@@ -42,27 +42,6 @@ impl<'a, C: Clock> Watch for ShortWatch<'a, C> {
             Some(elapsed) => elapsed >= Duration::from_millis(SHORT),
             None => true,
         }
-    }
-}
-
-/// Searches the problem until it is decided or the watch stops it, and returns the answer, or none where it was stopped. The trace hears of
-/// each step. The only error is out of memory.
-pub(crate) fn searched<V: Watch, T: Trace>(
-    alloc: Global,
-    tables: &Tables<'_>,
-    watch: &mut V,
-    trace: &mut T,
-) -> Result<Option<Answer>, AllocError>
-    ensures answer { IfOk result (λ found. MatchOption found (V.may_stop ≡ true)
-        (λ answer. answer ≡ answer_by tables.now (first tables.now []))) }
-    ensures order { IfOk result (λ found. IfSome found (IsWritable tables.now)) }
-{
-    let problem = tables.problem();
-    let mut decider = Decider::new(alloc, tables, TABLE_BYTES)?;
-    match decider.decide_traced(watch, trace) {
-        Decision::Found => Ok(Some(Answer::Cover(in_order(alloc, problem, decider.found())?))),
-        Decision::Barren(_) => Ok(Some(Answer::NoCover)),
-        Decision::Stopped => Ok(None),
     }
 }
 
@@ -117,7 +96,7 @@ fn searched_shortly<C: Clock>(
     let stopwatch = Stopwatch::new(clock);
     let mut short = ShortWatch { clock, stopwatch };
     let mut looking = LookingWatch::new(clock, alloc, problem, &mut short, EARLY);
-    if let Some(answer) = searched(alloc, tables, &mut looking, &mut Untraced)? {
+    if let Some(answer) = counted_or_searched(alloc, tables, &mut looking)? {
         return Ok(Some(answer));
     }
     Ok(looking.answer(problem))

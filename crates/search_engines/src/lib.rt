@@ -20,6 +20,7 @@ mod progress;
 mod progress_log;
 mod progress_watch;
 mod search_limits;
+mod searching;
 mod stopwatch;
 mod telling;
 mod timed_watch;
@@ -28,7 +29,7 @@ mod unanswered;
 mod walk_watch;
 
 pub use alone::{AloneEnd, alone_engine, alone_within};
-pub use answering::{answer_within, search_until};
+pub use answering::answer_within;
 pub use certifying::{
     ReasonListener, Unheard, certified_until, write_certified, write_certified_within,
 };
@@ -45,6 +46,7 @@ pub use progress::Progress;
 pub use progress_log::{LineStyle, ProgressLog};
 pub use progress_watch::{EndWatch, ProgressWatch};
 pub use search_limits::{SearchLimits, TimeLimit};
+pub use searching::search_until;
 pub use stopwatch::Stopwatch;
 pub use telling::{
     InputNames, tell, tell_end, tell_failure, tell_fault, tell_unbound, tell_unopened,
