@@ -4,9 +4,9 @@
 //! found doesn't depend on it. The table is a transposition table (see `keeping`): a searcher with one meets the same
 //! clauses, and ends sooner where states repeat.
 //!
-//! `find` and its two variants take the room for a cover before they search. A search may take hours, and no want of
-//! memory at its end may lose what it found. Where the room is refused, nothing was searched and the caller has its
-//! prefix again.
+//! `find` and its two variants take the room for a cover before they search. A search may take hours, and what it found
+//! is not to be lost because memory runs out at its end. Where the room is refused, nothing was searched and the caller
+//! has its prefix again.
 //!
 //! A search that was stopped isn't lost either: `find_so_far` makes of it a search that spent a smaller fuel, namely
 //! the visits until then. That is a right finding like any other, so a worker can post it and have its prefix split.
