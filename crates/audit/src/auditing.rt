@@ -1,3 +1,11 @@
+//! Were the books of all sites one run? A run of a distributed system is a partial order (Lamport's "happened before"):
+//! each site's entries in their order, each delivery after an equal packet was put out, each incarnation after the
+//! earlier ones. The audit looks for a total order that agrees with it.
+//!
+//! It runs no core. That each book is a sequence of legal steps is known from its type, and the law
+//! `merged_books_are_a_run` makes of any merge a run of the world, which is safe. Index and path save time and are
+//! believed in nothing: each entry is tested before it is taken.
+
 ghost use Rattle.std.specs.Prelude.{◌≡◌, true, IfErr, OnOk};
 ghost use Rattle.audit.specs.Audits.{AllHaveBooks, IsCause};
 ghost use Rattle.run_book.specs.Books.{are_distinct};

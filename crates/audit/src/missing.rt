@@ -1,3 +1,7 @@
+//! Which books have to be there: that of the registry, and that of each site from which a packet was delivered. A site
+//! that only sent into the void needs none, since nothing rests on it. This is asked first, as the other faults would
+//! blame a site that is there.
+
 ghost use Rattle.std.specs.Prelude.{◌≡◌, IfNone, IfSome};
 ghost use Rattle.std.specs.List.{AllByRecursion};
 ghost use Rattle.audit.specs.Audits.{AllHaveBooks, IsMissing, sender_in, site_before};

@@ -1,3 +1,10 @@
+//! A hash index from packets to where they were first put out. Without it each delivery would be looked for in all
+//! books.
+//!
+//! The digest is rustc's FxHash with another factor: rotate, exclusive or, multiply, here by 2^64 over the golden ratio
+//! (Fibonacci hashing, TAOCP 6.4). It leaves out prefixes and results, since names and attempts differ already. Equal
+//! digests cost time alone: the packet itself is compared at the spot, and `AllBooks` looks everywhere in the end.
+
 ghost use Rattle.std.specs.Prelude.{◌≡◌, true};
 ghost use Rattle.audit.specs.Cursors.{PutOut};
 

@@ -1,3 +1,9 @@
+//! What a search came to, with what was asked: so it can be judged by itself, whoever made it.
+//!
+//! A worker posts a finding as an event of its node. The node's book keeps a copy long after the searcher has gone on
+//! to another prefix, hence the cover is copied out. Equality is a part of that of events, and passes over the cover of
+//! a search that found none.
+
 ghost use Rattle.std.specs.Prelude.{◌≡◌, ◌↔◌, ℕ, List, IfOk, IsTrue};
 ghost use Rattle.std.proofs.Common.{rules};
 ghost use Rattle.std.specs.Cmp.Rules.{comparing};

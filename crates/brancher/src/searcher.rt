@@ -1,3 +1,16 @@
+//! A search as engines and workers call it: a store of live options, with or without a table of states that are kept.
+//!
+//! The store is dancing links (`new`) or what `Tables` were built for, links or bit sets by an `estimate`; what is
+//! found doesn't depend on it. The table is a transposition table (see `keeping`): a searcher with one meets the same
+//! clauses, and ends sooner where states repeat.
+//!
+//! `find` and its two variants take the room for a cover before they search. A search may take hours, and what it found
+//! is not to be lost because memory runs out at its end. Where the room is refused, nothing was searched and the caller
+//! has its prefix again.
+//!
+//! A search that was stopped isn't lost either: `find_so_far` makes of it a search that spent a smaller fuel, namely
+//! the visits until then. That is a right finding like any other, so a worker can post it and have its prefix split.
+
 ghost use Rattle.std.specs.Prelude.{◌≡◌, ◌<◌, ◌≤◌, ℕ, List, [], length, Some, None, Ok, true, false, IfOk, IfErr, IfSome, OnOk, OnErr, vec_capacity};
 ghost use Rattle.cover_problem.specs.Prefix.{is_prefix, IsBarren, IsCoverOver};
 ghost use Rattle.cover_problem.specs.Problem.{IsProblem};

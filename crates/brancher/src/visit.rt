@@ -1,3 +1,17 @@
+//! The search loop: Knuth's Algorithm X (TAOCP 7.2.2.1), depth first, over any store of live options.
+//!
+//! The store names the branch item: of the uncovered primary items the one with the fewest live options (minimum
+//! remaining values), the first one of equal. The loop chooses that item's live options one after the other, in the
+//! order of the file. Where none is left it backtracks. There is no recursion: the stack is the list of chosen options,
+//! and the store knows by which item each was chosen. So the item is covered once for all its options, as in Knuth's
+//! loop; `bench/TRIED.md` has what that saves.
+//!
+//! Fuel counts visits (nodes of the search tree), not time. So problem, prefix and fuel alone say what a search comes
+//! to, on any machine and at any site. A watch may still stop it by the clock, and then no contract says when.
+//!
+//! `pause` is for a search that keeps states: between two trials it runs this plain loop, and takes over again once so
+//! little fuel is left.
+
 ghost use Rattle.std.specs.Prelude.{◌≡◌, ◌+◌, ◌≤◌, ◌⊎◌, ℕ, length, true};
 ghost use Rattle.cover_problem.specs.Prefix.{is_prefix};
 ghost use Rattle.cover_problem.specs.Problem.{IsProblem};

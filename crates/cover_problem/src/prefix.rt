@@ -1,3 +1,13 @@
+//! Prefixes: partial covers, lists of options of which no two clash, as Algorithm X has them on its way down.
+//!
+//! Two kinds of functions are here. `clash`, `is_live` and `is_covered` follow their definitions pair by pair. They
+//! serve where few options are looked at: a hint of a learned clause, an option of a clique, the option that a gift
+//! adds. `is_prefix` has to be fast: a node tests by it each prefix that a packet brings, under its lock. So it makes
+//! one pass over the items with a mark for each (`marking`), on the stack.
+//!
+//! Options may agree on a secondary item in a colour (DLX2); `agree` is the one place where two options are compared by
+//! colour.
+
 ghost use Rattle.std.specs.Prelude.{◌≡◌, ◌<◌, ◌≤◌, ◌+◌, length, not, ◌&&◌, ◌↔◌, IfOk, IsTrue};
 ghost use Rattle.cover_problem.specs.ExactCover.{in_order};
 ghost use Rattle.cover_problem.specs.Problem.{names_item, colour_of};

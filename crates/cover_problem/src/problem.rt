@@ -1,3 +1,14 @@
+//! The exact cover problem itself, in the form of Knuth's DLX2 (TAOCP 7.2.2.1): primary and secondary items, and
+//! colours.
+//!
+//! The reader makes one of a file. What looks for reasons makes others of it: with cliques as further items, with more
+//! items primary, or with one option chosen. After that nothing changes a problem: all searchers, cores and threads
+//! borrow the same one.
+//!
+//! Its rules are an invariant of the type, so no function tests them again. A getter's contract brings them in; where
+//! none is called, `recall_rules` does. Colours are a second list beside an option's items, so that what knows no
+//! colours reads items alone.
+
 ghost use Rattle.std.specs.Prelude.{◌≡◌, ℕ, ◌-◌, ◌<◌, ◌≤◌, length, slice_index, slice_index_or, [], All, IfOk};
 
 use crate::lists::{Name, Numbers};

@@ -1,3 +1,10 @@
+//! The model of a run: all sites, and a network that is an adversary. As models in TLA+ often have it, the packets ever
+//! sent are kept and only become more. To deliver one leaves it there; so loss, repetition and reordering need no
+//! events of their own, and every network is some choice of deliveries.
+//!
+//! It runs in one thread and has no clock, so each run can be made again from its list of events. The real cores act in
+//! it, not models of them: what is proved of `step` is proved of the code that threads call.
+
 ghost use Rattle.std.specs.Prelude.{◌≡◌, ◌<◌, ◌≤◌, length, option_map, slice_get, suc, IfErr, IfOk, MatchOption, None, OnErr, Some};
 ghost use Rattle.cover_problem.specs.Problem.{IsProblem};
 ghost use Rattle.cover_world.specs.Courses.{opening_core, HoldsThroughout, Makes, MayPass, Stepped, StopsAt, TakesAll};

@@ -1,3 +1,6 @@
+//! The moves of the adversary: which site acts, which packet arrives, who restarts. `simulate` draws them at random;
+//! tests write them down. What a worker found can't be chosen: the world searches by itself, so every Post is right.
+
 use spawn_frame::{Job, Unit};
 
 /// What its caller lets happen in a world; sites go by their nodes, the registry's being 0.

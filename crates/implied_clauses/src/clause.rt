@@ -1,3 +1,6 @@
+//! A clause, as in SAT solvers: a disjunction of literals. Its type doesn't say that it holds: that is an invariant of
+//! `ImpliedClauses`.
+
 ghost use Rattle.std.specs.Prelude.{◌≡◌, ◌++◌, ◌∷◌, [], IfOk, OnOk};
 
 use crate::literal::Literal;

@@ -1,3 +1,17 @@
+//! The kernel of learning: a list of clauses that every exact cover satisfies, and the two ways in which another comes
+//! in.
+//!
+//! A clause comes in where it follows by unit propagation along hints (reverse unit propagation, with hints as in the
+//! format LRAT of SAT proofs): its literals are assumed false, and the hints' clauses are read in turn until one is
+//! violated. So the learner that found it need not be right (`learn`). What else may come in is what the caller proved
+//! to be implied (`admit`), such as that a prefix is barren.
+//!
+//! The first clauses are those of the primary items: one of its options is chosen. That two options clash is a clause
+//! that isn't stored: it is read off the problem where a hint names both. Once the empty clause is in, there is no
+//! cover.
+//!
+//! Places are reused: a clause that was forgotten leaves its place free, since a learner drops many that it learned.
+
 ghost use Rattle.std.specs.Prelude.{◌≡◌, ◌==◌, ◌||◌, ℕ, ◌≤◌, List, [], Bool, true, false, Option, None, Some, Ok, ◌⊎◌, length, set, slice_get, IfOk, OnOk, OnErr, MatchResult, MatchOption, if◌then◌else◌};
 ghost use Rattle.cover_problem.specs.ExactCover.{IsExactCover};
 ghost use Rattle.cover_problem.specs.Prefix.{IsBarren};

@@ -1,3 +1,7 @@
+//! What a learner says of itself: numbers for a line of progress or an answer, and each clause for a certificate.
+//! Nothing is proved of the numbers, and no answer depends on them. Who writes certificates hears of each clause with
+//! its hints, in the order in which a checker needs them.
+
 use implied_clauses::{Hint, Literal};
 
 /// What a learner has done so far.

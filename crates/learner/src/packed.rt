@@ -1,3 +1,9 @@
+//! MiniSat's numbering of literals (Eén and Sörensson): the sign is the lowest bit. So a literal is its own index in
+//! lists by literals, and to negate it is one exclusive or.
+//!
+//! Sixteen bits are enough for 20,000 options, which make 40,000 literals. A stored literal takes two bytes, which is
+//! what propagation reads.
+
 use implied_clauses::Literal;
 
 /// A literal in one number, by which lists are read: twice its option's number, and one more where the option is left (MiniSat's form).

@@ -1,3 +1,6 @@
+//! The two things that a caller may choose. Neither can make an answer wrong: a seed changes which cover is found and
+//! when, and with too little memory the learner stops without an answer. Both defaults were chosen, not measured.
+
 /// What a learner may use, and how it begins.
 #[derive(Clone, Copy, Debug, PartialEq, Eq)]
 pub struct Settings {

@@ -1,3 +1,13 @@
+//! A site as a state machine: an event goes in, a reply and packets come out, and there is no clock, socket, thread or
+//! lock ("sans I/O").
+//!
+//! So one machine serves all: threads call it under a lock, a simulation steps many of them in one thread
+//! (`cover_world`), a book records its steps and an audit reads them. What isn't an event can't change it, and neither
+//! time nor chance is one.
+//!
+//! A refused event is a transaction that rolled back: all memory is taken before the first change, and packets that
+//! were put out by then are cut off again.
+
 ghost use Rattle.std.specs.Prelude.{◌≡◌, Option, OnErr};
 ghost use Rattle.cover_problem.specs.Problem.{Problem};
 ghost use Rattle.node_core.specs.Acting.{refusal_told, ActsTo, Answered, MaySend, PutsOut, PutsOutBoth, StepOf};

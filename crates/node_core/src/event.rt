@@ -1,3 +1,7 @@
+//! The inputs of a site's state machine: what workers do, what the site does by its clock, and packets. The table of
+//! docs/PROTOCOL.md says by which test each is refused. Redo serves simulations: where threads run, only news of a
+//! later incarnation redoes a child.
+
 ghost use Rattle.std.specs.Prelude.{◌≡◌, IfOk};
 
 use brancher::Finding;

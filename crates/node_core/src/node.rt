@@ -1,3 +1,12 @@
+//! A node: it takes up, splits and finishes units, steals from others, and gives to them. Stealing and redoing are
+//! Cilk-NOW's; attempts and answers to results are this project's.
+//!
+//! It doesn't search. A worker does that outside, without the lock, and posts a finding. The node only splits a prefix
+//! whose search ran out of fuel, and for that it has links of its own. They are set to the prefix again for each split,
+//! so nothing of them is part of the view.
+//!
+//! Once the search is over every event is refused. A packet is still looked at, since `OtherSite` comes before `Over`.
+
 ghost use Rattle.std.specs.Prelude.{◌≡◌, ◌≢◌, ◌<◌, ◌≤◌, ◌^◌, true, false, IfOk, OnErr};
 ghost use Rattle.node_core.specs.Acting.{is_delivery, refusal_told, Answered, AnswersDelivery, AnswersHeard, GivesShare, HasPrefixes, MaySend};
 ghost use Rattle.node_core.specs.Formed.{IsFormedNode};

@@ -1,3 +1,7 @@
+//! The outputs of a site's state machine beside packets. Take is answered by one of the first three, any other event by
+//! one of the last two. Moved and Ignored are for whoever waits: a worker that found no work looks again only after
+//! something moved.
+
 ghost use Rattle.std.specs.Prelude.{◌≡◌, IfOk};
 
 use cover_problem::Numbers;

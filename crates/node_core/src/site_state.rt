@@ -1,3 +1,6 @@
+//! What nodes and the registry have in common: the ledger and one flag, which is raised once and stays. That is the
+//! whole view of a site, and a step is a relation between two of them; what else a core has only serves to compute it.
+
 ghost use Rattle.std.specs.Prelude.{◌≡◌, ◌<◌, ◌^◌};
 ghost use Rattle.spawn_frame.specs.Tables.{outs_of};
 

@@ -1,3 +1,6 @@
+//! A sparse bit set's unit: rows keep only the words that aren't zero, by rising places. Where few options name an item
+//! its row is short, and two rows are gone through side by side, as in a merge.
+
 /// A word of a set of options that isn't zero: which of its words it is, and the bits of that word.
 #[derive(Clone, Copy)]
 pub struct Word {

@@ -1,3 +1,7 @@
+//! The registry's view of membership, as a Members packet carries it: the number of node n is at index n - 1, and the
+//! registry, which never restarts, isn't in it. It is a struct over a list, and not a list, since a contract sees of a
+//! bare one its address and capacity, too.
+
 ghost use Rattle.std.specs.Prelude.{◌≡◌, ℕ, List, IfOk};
 ghost use Rattle.std.proofs.Common.{rules};
 ghost use Rattle.std.specs.Cmp.Rules.{comparing};

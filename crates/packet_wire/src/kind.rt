@@ -1,3 +1,6 @@
+//! The byte by which a packet says what it is, with its version. Version 2 has one kind, GiveMany, under the number of
+//! Give.
+
 ghost use Rattle.std.specs.Prelude.{◌≡◌};
 ghost use Rattle.packet_wire.specs.Kinds.{is_routed, kind_number, kind_numbered, kind_of, kind_version};
 

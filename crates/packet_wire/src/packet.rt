@@ -1,3 +1,13 @@
+//! The messages of the protocol, as values; `writing` and `reading` have their bytes. docs/PROTOCOL.md says who sends
+//! which, and when.
+//!
+//! They go by UDP: each may be lost, repeated or reordered. So none depends on an earlier one, no number counts them,
+//! and each names what it is about: a child by serial and attempt, a site by node and incarnation. What somebody waits
+//! for is sent again, and to receive it twice does no harm.
+//!
+//! GiveMany gives several children at once, so that a thief gets a share and not one leaf. It has a version of its own,
+//! and the bytes of the other packets are as they are without it.
+
 ghost use Rattle.std.specs.Prelude.{◌≡◌, ◌↔◌, IfOk, IsTrue};
 
 use crate::incarnations::Incarnations;

@@ -1,3 +1,12 @@
+//! The registry, Cilk-NOW's clearinghouse: it knows who takes part, has the job as a whole, and says when it is over.
+//!
+//! It is a site like others, with one own child, the root, whose prefix is empty. The first thief that asks gets it;
+//! its result is the answer. If a restart of that thief is known, the root is redone. The registry itself never
+//! restarts, so a run that loses it ends.
+//!
+//! It tests a cover (`check_cover`) before it lets the root have it, so of a node's word only "none" is believed
+//! without a test; for that there are the books and their audit.
+
 ghost use Rattle.std.specs.Prelude.{◌≡◌, ◌≤◌, true, IfOk, OnErr, OnOk, option_map};
 ghost use Rattle.node_core.specs.Acting.{refusal_told, MaySend, Sending};
 ghost use Rattle.node_core.specs.Refusal.{IsFit};

@@ -1,3 +1,8 @@
+//! A site's history as evidence: its type says that the entries lead from the site's first view through legal steps. So
+//! whoever reads a book needn't run the core once more.
+//!
+//! The registry's book alone says what a run publishes: the result in its first Accept.
+
 ghost use Rattle.std.specs.Prelude.{◌≡◌, ℕ, option_map, IfOk, IfSome};
 ghost use Rattle.node_core.specs.SiteView.{View};
 ghost use Rattle.root_registry.specs.Published.{published_by};

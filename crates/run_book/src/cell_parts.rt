@@ -1,3 +1,6 @@
+//! The ghost names of a cell have to exist before a type can be named by them, and the core is built after that. So a
+//! cell is made in two steps: its parts, then, in the type that they name, the cell.
+
 ghost use Rattle.std.specs.Prelude.{◌≡◌, []};
 
 use crate::names::CellName;

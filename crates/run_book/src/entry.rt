@@ -1,3 +1,6 @@
+//! One line of a book is a shared pointer to a step, so equal steps can be stored once (`Repeated`; hash consing
+//! without the hash). Then a line takes eight bytes.
+
 ghost use Rattle.std.specs.Prelude.{◌≡◌, IfOk, IsTrue};
 ghost use Rattle.std.specs.Arc.{arc_value};
 

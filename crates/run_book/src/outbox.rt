@@ -1,3 +1,12 @@
+//! The queue between the threads that act and the one that sends: bounded, many producers, one consumer (crossbeam's
+//! array queue).
+//!
+//! It is bounded, and a full one loses the packet. The protocol has to live with lost packets in any case, so a slow
+//! network costs packets, not memory, and never holds up the core. What was lost and matters is put out again later.
+//!
+//! A pass and a drain are ghost histories: what a contract can say of a queue that others use is what this thread did.
+//! `parcel_rule` has the rule that both follow.
+
 ghost use Rattle.std.specs.Prelude.{◌≡◌, [], None, IfErr, IfOk, IfSome, OnErr, OnOk};
 ghost use Rattle.run_book.specs.Outbox.{has_taken, FoundEmpty, FoundFull, HasPut};
 

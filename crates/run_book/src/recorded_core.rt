@@ -1,3 +1,10 @@
+//! A core with its log: an append-only record of events, as in event sourcing, made in the same step as the change that
+//! it records.
+//!
+//! The order is: is the book full, is there room for an entry, then the core acts, then the entry is put in. So there
+//! is neither a change without an entry nor an entry without a change, whatever memory is refused. The log isn't for
+//! recovery: a site that restarts begins with an empty one. It is the evidence that an audit merges.
+
 ghost use Rattle.std.specs.Prelude.{◌≡◌, ℕ, ◌+◌, ◌<◌, ◌≤◌, List, [], ◌∷◌, ◌++◌, length, sum, vec_len, None, Some, IfErr, IfNone, IfOk, IfSome, OnErr, OnOk};
 ghost use Rattle.node_core.specs.Acting.{named_fault, Acts};
 ghost use Rattle.node_core.specs.Refusal.{IsFit};

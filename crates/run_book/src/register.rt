@@ -1,3 +1,9 @@
+//! Receipts: proofs that an entry is in the book, at that place. They are tickets of a ghost protocol (`ticket_rule`);
+//! at run time a token has no bytes, so a thread may keep one for each entry of a run of days.
+//!
+//! Of each place there is one. So whoever hands in as many receipts as the seats count has handed in all, and the book
+//! has no entry that nobody knows of.
+
 ghost use Rattle.std.specs.Prelude.{◌≡◌, [], ◌∷◌, ◌++◌, length};
 ghost use Rattle.crossbeam_queue.specs.Passes.{view, IsPassOf, IsSamePass};
 ghost use Rattle.run_book.specs.Tickets.{entered, keeper_of_none, receipt_of, taken_back, AreApart, IsKeeper};

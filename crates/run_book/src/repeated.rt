@@ -1,3 +1,6 @@
+//! Steps that come again and again are stored once. Threads that find no work ask for ever, so a book of a run of days
+//! has many such entries. The few such steps are searched one by one; they are too few for a hash table.
+
 ghost use Rattle.std.specs.Prelude.{◌≡◌, IfSome};
 
 use crate::book_room::entry_bytes;

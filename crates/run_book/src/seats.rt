@@ -1,3 +1,7 @@
+//! Capabilities: a thread may act at a cell only with a seat, and each seat counts what it did. A ledger of `std` gives
+//! out shares of a whole of 2^64 - 1, one for each seat. The cell closes when all shares are back together, so no
+//! thread can still hold one.
+
 ghost use Rattle.std.specs.Prelude.{◌≡◌, ◌+◌, ◌<◌, ◌≤◌, None, IfSome, sum, vec_len};
 
 use crate::names::CellName;

@@ -1,3 +1,6 @@
+//! What an entry says. Its memory is taken before the core acts, as a blank that says nothing, and is filled in when
+//! the core has answered: a step that happened has to be entered, and nothing may fail by then.
+
 ghost use Rattle.std.specs.Prelude.{◌≡◌, IsTrue};
 
 use node_core::{Event, Reply};

@@ -1,3 +1,12 @@
+//! HMAC (RFC 2104) by SHA-256 (FIPS 180-4), cut to its first 16 bytes: a message authentication code behind each
+//! datagram.
+//!
+//! It keeps out other processes of the host, which may send to any port. It doesn't hide anything, and a datagram that
+//! is sent again by somebody who has seen it is taken for a repeat, which the protocol allows.
+//!
+//! The two hashers that have taken in the key are kept and copied, as RFC 2104 proposes (section 4), so a packet costs
+//! its own blocks and one for the outer hash. Codes are compared without an early end, so that the time says nothing.
+
 ghost use Rattle.std.specs.Prelude.{◌≡◌, ◌+◌, ◌<◌, ◌≤◌, ◌↔◌, List, ℕ, Some, length, take, IfSome, IsTrue, MatchOption};
 ghost use Rattle.sha2.specs.Hashers.{Holds256};
 ghost use Rattle.run_key.specs.Codes.{code, padded, sealed};

@@ -1,3 +1,6 @@
+//! The order of the causes is their rank: of all threads of a site, and of all starts, the least is the one to tell.
+//! What explains the others is before them: a book that is full stops the other threads, so `Stopped` is last.
+
 /// Why a thread of a site ended. Of several the first of this list is the site's.
 #[derive(Clone, Copy, Debug, PartialEq, Eq, PartialOrd, Ord)]
 pub enum EndCause {

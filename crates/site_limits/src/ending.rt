@@ -1,3 +1,10 @@
+//! How a run ends in one process: flags and counts that all sites read, beside the protocol. The protocol knows when
+//! the search is over; this is for ends that it doesn't know, a site that failed, a limit of time, the last node that
+//! left. So there is no distributed termination detection (as by Dijkstra and Scholten): the root's result is that, and
+//! all else is local.
+//!
+//! All loads and stores are sequentially consistent: they are read between receives, not in a search.
+
 use crate::end_cause::EndCause;
 use std::sync::atomic::{AtomicBool, AtomicU64, Ordering};
 use std::thread;

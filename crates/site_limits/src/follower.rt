@@ -1,3 +1,6 @@
+//! An observer of a run, for lines of progress and the cause of an end. No answer depends on what it does. Threads call
+//! it at the same time, hence by shared reference.
+
 use crate::site_end::SiteEnd;
 use brancher::Finding;
 

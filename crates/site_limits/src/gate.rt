@@ -1,3 +1,6 @@
+//! A hook for tests of concurrency: a gate that holds one worker until another has posted makes a schedule certain that
+//! would else be a matter of luck. The program's own gates hold nobody back.
+
 use crate::follower::Follower;
 use spawn_frame::Job;
 

@@ -1,3 +1,6 @@
+//! All settings of a run in one value. The engines make it of a command's words, tests write it down, and each
+//! incarnation of a node that restarts gets one of its own (`plan_of_incarnation` of udp_node).
+
 use crate::timing::Timing;
 use std::time::Duration;
 

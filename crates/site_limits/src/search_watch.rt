@@ -1,3 +1,10 @@
+//! Where a worker's search meets the clock and the run: it is asked now and then (`EVERY` of brancher), stops a search
+//! whose site ends, and shows it to the follower for lines of progress.
+//!
+//! Without kept states fuel alone bounds a job. With them one visit may count for millions, so the job is bounded by
+//! the visits that it makes (`Quota`). Where states save much the job goes on to twice its visits; at each limit behind
+//! that they have to save twice as much.
+
 use crate::follower::Follower;
 use crate::pace::Quota;
 use brancher::Watch;

@@ -1,3 +1,6 @@
+//! The report of a site. Ends of several starts are put together by least, sum and greatest, so their order doesn't
+//! matter.
+
 use crate::end_cause::EndCause;
 
 /// How a site of a run ended, over all its starts. The greatest numbers stay.

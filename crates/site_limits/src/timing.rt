@@ -1,3 +1,7 @@
+//! The timers of the protocol: keep-alive, failure detection by silence, retransmission. `Schedule` of udp_node reads
+//! them; it says why repeats come ever later (exponential backoff). Silence redoes nothing: only news of a later
+//! incarnation of its thief redoes a child.
+
 /// When a site acts although nothing came, in milliseconds.
 #[derive(Clone, Copy, Debug, PartialEq, Eq)]
 pub struct Timing {

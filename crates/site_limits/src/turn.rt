@@ -1,3 +1,6 @@
+//! A thread's work is bounded by turns as well as by the clock: a bound that is the same on each machine. A wait is no
+//! turn, or a worker that was idle for long would be gone.
+
 use crate::end_cause::EndCause;
 
 /// What came of a thread's turn.

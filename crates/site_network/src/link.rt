@@ -1,3 +1,9 @@
+//! What a site needs of a network is what UDP gives (RFC 768): datagrams that arrive whole, perhaps twice, late, or
+//! never. Nothing here acknowledges or orders; the protocol above does. Implementations are sockets, queues in memory,
+//! and in tests links that lose and repeat.
+//!
+//! The count of failures is for contracts: no clause can speak of the network, but each can say how many calls failed.
+
 ghost use Rattle.std.specs.Prelude.{◌≡◌, ◌≤◌, ℕ, length, IfErr, IfOk, IfSome};
 ghost use Rattle.site_network.specs.Links.{failed_once};
 

@@ -1,3 +1,7 @@
+//! Own children as a tree of parent pointers: a prefix is read by going up, and children of one parent share it.
+//!
+//! A node may name a million of them in an incarnation, so their size matters; it is proved below.
+
 use crate::unit::Unit;
 use crate::work::Work;
 

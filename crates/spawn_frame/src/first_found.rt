@@ -1,3 +1,13 @@
+//! The inlet of a search for one cover, after `inlet` of the Cilk 5.4 manual: what the children return is taken as it
+//! comes, one by one, and the first success ends the frame (OR parallelism). What Cilk's `abort` does then is an event
+//! of its own here, Finish.
+//!
+//! Two numbers are the whole state, so a result costs no walk over the children: how many haven't answered, and the
+//! winner. Of covers that came before the frame was finished the least serial wins, whatever the order in which they
+//! came.
+//!
+//! It knows nothing of time or place: whether a child was searched here or by a thief is the table's business.
+
 ghost use Rattle.std.specs.Prelude.{◌≡◌, ◌+◌, ◌<◌, IsSome, None, true};
 ghost use Rattle.spawn_frame.specs.Inlets.{hearing_of, heard_of, is_cover, new_hearing, IsNextWinner};
 

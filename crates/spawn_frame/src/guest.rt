@@ -1,3 +1,9 @@
+//! Work that was stolen, as its thief has it. The owner keeps its child, and can redo it if the thief is lost, as in
+//! Cilk-NOW.
+//!
+//! A guest has its whole prefix, since its parent is at another site. It stays in the table when it has ended, so that
+//! a repeated Give finds it and is ignored: receiving is idempotent.
+
 ghost use Rattle.std.specs.Prelude.{◌≡◌};
 ghost use Rattle.spawn_frame.specs.Names.{guest_before};
 ghost use Rattle.spawn_frame.specs.Units.{is_guest};

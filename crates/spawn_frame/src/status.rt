@@ -1,3 +1,9 @@
+//! The states of a unit, as the diagrams of docs/PROTOCOL.md show them. Owner and thief each have a machine of their
+//! own: what is Out at the owner is Ready, Here, Split or Finished at the thief, until packets say more.
+//!
+//! It is one enum for both, so the calls that take up, split and finish a unit are written once; which states each kind
+//! of unit may have is an invariant of the table.
+
 ghost use Rattle.std.specs.Prelude.{◌≡◌, IfOk};
 
 use crate::child_result::ChildResult;

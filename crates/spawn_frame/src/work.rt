@@ -1,3 +1,8 @@
+//! What own children and guests have in common, so that each change of a unit is written, and proved, once.
+//!
+//! `path` is ghost data: contracts see each unit's prefix, while the program stores one option a child. `GhostPrefix`
+//! says what ties the two.
+
 ghost use Rattle.std.specs.Prelude.{◌≡◌, ◌+◌, ◌<◌, ◌^◌, ◌&&◌, ◌==◌, Some};
 ghost use Rattle.spawn_frame.specs.Tables.{is_here};
 

@@ -1,3 +1,8 @@
+//! The acknowledgement of a Return, positive or negative: either ends the thief's retransmission.
+//!
+//! `receive_return` makes it, which judges and enters in one. The cores don't: they call `judge` and `enter`, and write
+//! the packet in between.
+
 use spawn_frame::{Cause, ChildResult};
 
 /// What the owner of a child answers to a result that is returned.

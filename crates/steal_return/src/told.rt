@@ -1,3 +1,7 @@
+//! News of restarts, from a Members packet at a node or a Hello at the registry. Both are merged by the greater
+//! incarnation of each node. That is idempotent and commutative, so lost, repeated and reordered packets do no harm (as
+//! in a version vector).
+
 use spawn_frame::Site;
 
 /// What a site is told of the incarnations of nodes.

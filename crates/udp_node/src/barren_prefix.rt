@@ -1,3 +1,6 @@
+//! A nogood as a message: below this prefix there is no cover. The proof travels with it as ghost data, so who hears it
+//! keeps it untested. The count is what the definition counts, so the hearer's own counts stay exact.
+
 ghost use Rattle.std.specs.Prelude.{◌≡◌, None, true};
 ghost use Rattle.cover_problem.specs.Prefix.{is_prefix};
 ghost use Rattle.cover_problem.specs.Search.{first, visits};

@@ -1,3 +1,6 @@
+//! What threads of all sites borrow, once for a run. The tables of the problem never change; the ending and the count
+//! of bytes are atomics.
+
 ghost use Rattle.std.specs.Prelude.{◌≡◌};
 
 use brancher::Tables;

@@ -1,3 +1,7 @@
+//! A search with a budget, for one question: are all children of this prefix known to be barren? Where they are, the
+//! table answers each in one look, and the search is over in a few visits; where they aren't, it is given up. See
+//! `CLIMB` in `worker`.
+
 use brancher::Watch;
 
 /// Stops a search that keeps states after a few visits.

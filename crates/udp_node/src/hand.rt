@@ -1,3 +1,7 @@
+//! What outlives a worker's turn. A turn may end between any two steps, because memory is refused or a gate holds the
+//! post back; the next one goes on with the same job or finding, so no search is lost. A finding carries its proof as
+//! ghost data: that it is right.
+
 ghost use Rattle.std.specs.Prelude.{◌≡◌, ◌≤◌, true};
 ghost use Rattle.cover_problem.specs.Prefix.{is_prefix};
 ghost use Rattle.cover_problem.specs.Search.{outcome};

@@ -1,3 +1,6 @@
+//! A node that restarts shares its turns out evenly among its incarnations, so that all of them take no more turns than
+//! one node that doesn't restart.
+
 ghost use Rattle.std.specs.Prelude.{◌≡◌};
 ghost use Rattle.udp_node.specs.Incarnations.{incarnation_plan};
 

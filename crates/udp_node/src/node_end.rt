@@ -1,3 +1,5 @@
+//! How a site hands back what it was lent: `run_sites` closes the cell with these seats and tokens, and gets its book.
+
 ghost use Rattle.std.specs.Prelude.{◌≡◌, ◌+◌, ◌≤◌, sum, sum_by, vec_len, IfErr, IfOk, IfSome};
 ghost use Rattle.std.specs.Vec.{vec_capacity};
 ghost use Rattle.site_limits.specs.declared.end_cause.EndCause.TheVariants.{Memory};

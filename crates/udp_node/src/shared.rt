@@ -1,3 +1,6 @@
+//! What threads of one site borrow. What changes has its synchronization inside: the cell is a mutex, outbox and
+//! exchange are queues, and signals are mostly atomics.
+
 use crate::context::Context;
 use crate::exchange::Exchange;
 use crate::signals::Signals;
