@@ -365,6 +365,9 @@ def test_written(trial: Solving) -> None:
     os.chmod(slow, 0o755)
     status, lines, errors = trial.run("queens", "4", "--one", program=slow)
     assert status == 0 and "still looking, for 10 seconds now" in errors and "this took 1" in errors, f"it says that it goes on: {errors}"
+    status, lines, errors = trial.run("sudoku", "." * 81, "--count", "--seconds", "11")
+    assert status == 0 and lines[0].startswith("There are at least "), f"a count that ends with its time: {lines}"
+    assert re.search(r"still looking, for 10 seconds now: [\d,]{2,} solutions so far\n", errors), f"a count says how far it is: {errors}"
     for program, wanted in (("/dev/null", 2), ("/bin/false", 3), ("/bin/true", 3)):
         status, _, errors = trial.run("queens", "4", program=program)
         assert status == wanted and "Traceback" not in errors, f"the program {program}: {status} {errors}"

@@ -38,7 +38,7 @@ import threading
 import time
 from argparse import Namespace
 from collections import Counter
-from collections.abc import Iterator
+from collections.abc import Callable, Iterator
 from typing import Optional
 
 from .command_line.ends import complain, stop
@@ -122,13 +122,13 @@ def asked_of_school(program: str, timetable: Timetable, given: Namespace) -> Ans
 
 
 @contextlib.contextmanager
-def told_waiting() -> Iterator[None]:
-    """Says every ten seconds that a search goes on, and at the end how long it took."""
+def told_waiting(so_far: Callable[[], str] = str) -> Iterator[None]:
+    """Says every ten seconds that a search goes on, and what it has found so far, if anything is to be said of that; at the end how long it took."""
     began, over = time.monotonic(), threading.Event()
 
     def tell() -> None:
         while not over.wait(WAITING):
-            complain(f"still looking, for {time.monotonic() - began:.0f} seconds now")
+            complain(f"still looking, for {time.monotonic() - began:.0f} seconds now{so_far()}")
 
     thread = threading.Thread(target=tell, daemon=True)
     with contextlib.suppress(RuntimeError):
@@ -260,7 +260,8 @@ def listed(program: str, puzzle: Puzzle, problem: Problem, given: Namespace) -> 
     tree, count, began = Tree(problem), 0, time.monotonic()
     found = Covers(tree, lambda prefix: Asked(program, tree, prefix)).each(given.seconds)
     try:
-        with contextlib.closing(found):
+        # (each solution that is drawn says that the search goes on)
+        with contextlib.closing(found), contextlib.nullcontext() if given.all else told_waiting(lambda: f": {plural(count, 'solution')} so far"):
             for count, cover in enumerate(found, 1):
                 if given.all:
                     print("\n".join(picture_of(problem, [problem.options[place] for place in sorted(cover)], False).text()), end="\n\n", flush=True)
