@@ -14,7 +14,7 @@ use std::alloc::{AllocError, Global};
 /// How many words of sets are looked at, some hundredths of a second.
 const MOST_STEPS: usize = 20_000_000;
 
-/// How many cliques are kept.
+/// How many cliques are kept: each is a further item, of which a problem has at most 1,000. Chosen, not measured.
 const MOST_CLIQUES: usize = 200;
 
 /// How many items of options are copied for them, all copies of the problem together: some hundredths of a second.

@@ -8,7 +8,7 @@ use cover_problem::Problem;
 use cover_reasons::ReasonWatch;
 use std::alloc::{AllocError, Global};
 
-/// How many candidates are compared before one comes into the clique.
+/// How many candidates are compared before one comes into the clique: it bounds a greedy choice. Chosen, not measured.
 const MOST_TRIES: usize = 60;
 
 /// Options that clash by twos, and those that clash with all of them.

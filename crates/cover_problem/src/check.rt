@@ -16,7 +16,7 @@ use crate::prefix::are_options;
 use crate::problem::Problem;
 use crate::verdict::Verdict;
 
-/// How many numbers there are that an option can have.
+/// How many numbers there are that an option can have: 2^16, as they have 16 bits.
 const NUMBERS: usize = 65536;
 
 /// Whether no number stands in the list twice.

@@ -13,13 +13,15 @@ use cover_problem::Problem;
 use fractional_room::{Progress, Simplex};
 use std::alloc::{AllocError, Global};
 
-/// How many pivots are made at most. A file of 1,000 items takes some 5,000.
+/// How many pivots are made at most. A file of 1,000 items takes some 5,000; four times that was chosen, as no proof
+/// says that the method ends.
 const MOST_PIVOTS: usize = 20_000;
 
 /// How many numbers are changed at most: one to three seconds.
 const MOST_STEPS: usize = 4_000_000_000;
 
-/// How many scales are tried at most, up to 65,535.
+/// How many scales are tried at most, up to 65,535. Chosen, not measured: mostly a few times the number of items over
+/// what is missing is enough.
 const MOST_SCALES: usize = 200;
 
 /// Room that is too little, with multipliers as small as the scales let them be, if it is found before the watch ends that. Where none is found there

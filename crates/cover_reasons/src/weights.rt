@@ -5,7 +5,7 @@ ghost use Rattle.cover_reasons.specs.Weights.{weight_of};
 
 use std::marker::Model;
 
-/// The largest modulus.
+/// The largest modulus: 2^16, so that weights below it have 16 bits.
 pub const MOST_MODULUS: u32 = 65536;
 
 /// A modulus of 2 to 65,536, and a weight for each of the first items.

@@ -17,7 +17,7 @@ use spawn_frame::{Job, Site, Table};
 use std::alloc::{AllocError, Global};
 use std::marker::Model;
 
-/// How many children each node may name.
+/// How many children each node may name, as many as in a run by threads (`udp_node`). Chosen, not measured.
 pub const NAMES_LIMIT: u32 = 1_000_000;
 
 /// The cores of the sites of a world: the registry's, and one for each node in its present incarnation.

@@ -9,14 +9,16 @@ use crate::build::numbers_below;
 use crate::layout::{Layout, Rows};
 use std::alloc::{AllocError, Global};
 
-/// One node in a column, in the key of its item; numbers of items are less.
+/// One node in a column, in the key of its item: 2^16, so that the item's number fits below it and one comparison
+/// orders by count, then by item.
 const ONE_OPTION: u32 = 65_536;
 
 // (no count gets so far: 20,000 options make 1,310,720,000)
-/// The mark of a covered item; an uncovered one has a lesser key.
+/// The mark of a covered item, the top bit of 32; an uncovered one has a lesser key.
 const COVERED: u32 = 2_147_483_648;
 
-/// How many keys a step looks at.
+/// How many keys a step looks at. Eight at a time, in place of a walk through a list of uncovered items, took 14 % off
+/// the time (`bench/TRIED.md`); other numbers weren't measured.
 const AT_A_TIME: usize = 8;
 
 /// The keys of all items while no node is out; the only error is out of memory.

@@ -4,7 +4,7 @@ ghost use Rattle.std.specs.Prelude.{◌≡◌, ◌<◌, ◌≤◌, ◌+◌, [], 
 
 use std::marker::Model;
 
-/// The greatest number of bytes that wait.
+/// The greatest number of bytes that wait: one page of memory, chosen and not measured.
 const MOST: usize = 4096;
 
 /// Bytes that wait to be written, at most 4,096. They take no memory of an allocator.

@@ -8,7 +8,9 @@ use std::alloc::{AllocError, Global};
 use std::collections::BTreeMap;
 use std::marker::Model;
 
-/// With how many names a word is compared before it is looked up among all.
+/// With how many names a word is compared before it is looked up among all: names of one option often follow one
+/// another in the file's first line. That took `crowd` from 260 to 92 million instructions (`bench/TRIED.md`); other
+/// numbers than eight weren't measured.
 const NEAR: usize = 8;
 
 /// The names of items or of colours in their order, no two of them alike, of which there are at most 10,000. Each is found by some

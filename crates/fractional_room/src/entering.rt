@@ -7,7 +7,8 @@ use crate::relaxation::Relaxation;
 /// one took up to twice as long, since each pivot then looks at all options.
 const SECTION: usize = 500;
 
-/// What a column has to gain at least: less is taken for an error of rounding.
+/// What a column has to gain at least: less is taken for an error of rounding. As `LEAST_PIVOT` of the simplex; chosen,
+/// not measured.
 const LEAST_GAIN: f64 = 1e-7;
 
 /// A column that may enter the basis, and how much it lowers what is missing, for each part of it that is taken: its reduced cost.

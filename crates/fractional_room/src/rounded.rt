@@ -5,7 +5,8 @@ use cover_problem::Problem;
 use std::alloc::{AllocError, Global};
 use std::num::saturating_f64_to_u16;
 
-/// How far a number may be from a whole one and yet is taken for it.
+/// How far a number may be from a whole one and yet is taken for it: a millionth, of the order of LP solvers'
+/// tolerances. Chosen, not measured. What it spoils is lost and never believed: rooms are added up exactly.
 const NEAR: f64 = 1e-6;
 
 /// What each of the first items needs, and for how much each of the first items has room. Nothing is proved of these numbers.

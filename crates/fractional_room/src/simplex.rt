@@ -18,20 +18,23 @@ use crate::rounded::Rounded;
 use cover_problem::Problem;
 use std::alloc::{AllocError, Global};
 
-/// How much more than 1 a right side is at most.
+/// How much more than 1 a right side is at most. A hundred times as much or a tenth took as many pivots, as the head
+/// says.
 const SHIFT: f64 = 1e-5;
 
 /// By how much the shift of a row differs from that of the row before it, of all the shift: the golden ratio spreads them evenly (Knuth, The Art of
 /// Computer Programming, 6.4).
 const SPREAD: f64 = 0.618_033_988_749_894_8;
 
-/// What is missing is taken for nothing from here on down.
+/// What is missing is taken for nothing from here on down: a tenth of `SHIFT`. Chosen, not measured.
 const LEAST_MISSING: f64 = 1e-6;
 
-/// A number by which a pivot divides is more than that, lest errors of rounding grow.
+/// A number by which a pivot divides is more than that, lest errors of rounding grow. Of the order of LP solvers' pivot
+/// tolerances; chosen, not measured.
 const LEAST_PIVOT: f64 = 1e-7;
 
-/// A number of the inverse below that is taken for an error of rounding.
+/// A number of the inverse below that is taken for an error of rounding: some thousand times that of a 64-bit number
+/// near 1. Chosen, not measured.
 const LEAST_NUMBER: f64 = 1e-12;
 
 /// What came of a pivot.

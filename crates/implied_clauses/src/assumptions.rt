@@ -9,7 +9,8 @@ use crate::literal::Literal;
 use std::alloc::{AllocError, Global};
 use std::marker::Model;
 
-/// After so many rounds the marks start again.
+/// After so many rounds the marks start again. Any number that 32 bits hold would do: it only keeps the count from
+/// wrapping.
 const MOST_ROUNDS: u32 = 1 << 30;
 
 /// What is assumed of each option in the present round. A new round begins with nothing assumed, and without a look at the options.

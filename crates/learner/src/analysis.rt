@@ -11,7 +11,8 @@ use crate::tables::{at, put};
 use crate::trail::{Cause, Trail};
 use std::alloc::{AllocError, Global};
 
-/// So many options are looked at for one literal at most.
+/// So many options are looked at for one literal at most, since minimization walks the implication graph and may go
+/// far. Chosen, not measured.
 const MOST_LOOKS: u32 = 2000;
 
 /// The clause that is learned, and what it rests on.

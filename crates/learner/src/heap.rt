@@ -6,10 +6,11 @@ use std::alloc::{AllocError, Global};
 /// An option that isn't in the heap.
 const NOWHERE: u16 = u16::MAX;
 
-/// Activities above this one are made smaller, with all others (MiniSat).
+/// Activities above this one are made smaller, with all others (MiniSat's number): far below where a 64-bit number
+/// overflows.
 const GREATEST: f64 = 1e100;
 
-/// By what they are made smaller.
+/// By what they are made smaller: MiniSat's factor, the inverse of `GREATEST`.
 const SMALLER: f64 = 1e-100;
 
 /// By what the step of activities grows at each conflict: 1 divided by MiniSat's decay of 0.95.

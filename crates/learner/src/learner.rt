@@ -29,7 +29,8 @@ use rand_pcg::Pcg32;
 use std::alloc::{AllocError, Global};
 use std::marker::Model;
 
-/// How many clauses are kept at first; the bound grows by a tenth each time that it is reached.
+/// How many clauses are kept at first; the bound grows by a tenth each time that it is reached (MiniSat's
+/// `learntsize_inc`). MiniSat begins with a third of the problem's clauses; this number was chosen and not measured.
 const FIRST_BOUND: usize = 8000;
 
 /// How a search ended.

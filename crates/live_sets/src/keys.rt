@@ -10,10 +10,10 @@ ghost use Rattle.live_sets.specs.Trying.{AreBehind};
 
 use option_sets::{OptionSets, Word};
 
-/// One live option, in the key of its item; numbers of items are less.
+/// One live option, in the key of its item: 2^16, so that the item's number fits below it, as in dancing links.
 const ONE_OPTION: u32 = 65_536;
 
-/// The mark of a covered item; an uncovered one has a lesser key.
+/// The mark of a covered item, the top bit of 32; an uncovered one has a lesser key.
 pub const COVERED: u32 = 2_147_483_648;
 
 /// How many options of a row are live.

@@ -8,7 +8,8 @@ ghost use Rattle.option_sets.specs.ClashTables.{AreKept, AreAllKept};
 use crate::clash_tables::ClashTables;
 use std::alloc::{AllocError, Global};
 
-/// Of a problem with more options than this no such sets are kept: they would take more than 8 MB.
+/// Of a problem with more options than this no such sets are kept: they would take more than 8 MB, a bit for each pair
+/// of options. Chosen, not measured.
 const MOST_KEPT: usize = 8192;
 
 /// Of each option the set of those that it leaves, one behind the other, or of a large problem an empty list. The only error is

@@ -11,7 +11,7 @@ use byteorder::{BigEndian, ByteOrder};
 use spawn_frame::{Attempt, Cause, ChildResult, Sibling, Site};
 use std::alloc::{AllocError, Global};
 
-/// The number with which each packet begins.
+/// The number with which each packet begins: `CN` in ASCII.
 pub const MAGIC: u16 = 0x434e;
 
 /// The version of each packet but those that give several children.
@@ -20,7 +20,8 @@ pub const VERSION: u8 = 1;
 /// The version of the packets that give several children.
 pub const SECOND_VERSION: u8 = 2;
 
-/// The most bytes that a packet has: a header, a prefix of 999 options and eight children.
+/// The most bytes that a packet has, a GiveMany: the header 14, the count of children 1, a prefix of 999 options 2 +
+/// 1,998, eight children 80.
 pub const LONGEST_PACKET: usize = 2095;
 
 /// Writes a number of one byte.

@@ -8,7 +8,8 @@ use packet_wire::{Body, Packet};
 use spawn_frame::ChildResult;
 use std::mem::{size_of, size_of_val};
 
-/// How many bytes an allocator keeps beside what it gives out, for each piece.
+/// How many bytes an allocator keeps beside what it gives out, for each piece: a word for its size and what rounding up
+/// to 16 takes, as in the C library. An estimate.
 const BESIDE: u64 = 16;
 
 /// What an entry takes in the list of its book, which has room for twice as many at most.

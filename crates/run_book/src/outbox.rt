@@ -17,7 +17,7 @@ use std::alloc::{AllocError, Global};
 use std::marker::Model;
 use std::sync::Wait;
 
-/// How many parcels fit into an outbox.
+/// How many parcels fit into an outbox. A full one loses what comes next. A power of two, chosen and not measured.
 pub const CAPACITY: usize = 1024;
 
 /// A right to put parcels into one outbox. It knows a beginning of all that was put in, and what it has put in itself.

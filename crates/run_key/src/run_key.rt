@@ -17,13 +17,14 @@ use std::alloc::AllocError;
 use std::io;
 use std::random::RandomSource;
 
-/// How many bytes a key has: as many as a block of the hash, so that it needs no filling up.
+/// How many bytes a key has: as many as a block of SHA-256 (RFC 2104), so that it needs no filling up.
 pub const KEY: usize = 64;
 
-/// How many bytes a datagram's code has.
+/// How many bytes a datagram's code has: half of the hash, the least to which RFC 2104 says that it may be cut.
 pub const CODE: usize = 16;
 
-/// What each byte of the key is changed by before the bytes are hashed, and before their hash is.
+/// What each byte of the key is changed by before the bytes are hashed, and before their hash is: `ipad` and `opad` of
+/// RFC 2104.
 const INNER: u8 = 0x36;
 
 const OUTER: u8 = 0x5c;

@@ -16,7 +16,8 @@ pub enum Turn {
     Ended(EndCause),
 }
 
-/// How often memory may run out with nothing done in between: then the thread ends.
+/// How often memory may run out with nothing done in between: then the thread ends, a tenth of a second later, as it
+/// waits a millisecond each time. Chosen, not measured.
 const SHORTAGES: u32 = 100;
 
 /// How many turns a thread may take, and how many it took. One in which it waited is none.

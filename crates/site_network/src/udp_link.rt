@@ -11,7 +11,8 @@ use std::net::{Ipv4Addr, Net, SocketAddr, SocketAddrV4, UdpSocket};
 use std::sync::{Arc, Wait};
 use std::time::Duration;
 
-/// How long a receive waits at most, in milliseconds.
+/// How long a receive waits at most, in milliseconds: by the system's tick it may be twice as long. Chosen, not
+/// measured.
 const PATIENCE: u64 = 4;
 
 /// How many bytes a datagram has at most, without its code: more than the longest packet.

@@ -15,7 +15,8 @@ use crate::wanted::Wanted;
 use std::alloc::{AllocError, Global};
 use std::marker::Model;
 
-/// How many children a page has, the last one excepted.
+/// How many children a page has, the last one excepted: 26 KB of them. A walk over a million children looks at 4,000
+/// pages. Chosen, not measured.
 pub const PAGE: usize = 256;
 
 /// At most 256 own children that follow one another, and which kinds of them there are. It has room for all of them from

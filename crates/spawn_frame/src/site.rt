@@ -1,6 +1,6 @@
 //! Names: sites, children and attempts.
 
-/// The greatest number of a node; 0 is the registry's.
+/// The greatest number of a node, prescribed by the protocol; 0 is the registry's.
 pub const LAST_NODE: u8 = 16;
 
 /// The last attempt, after which no child is redone: the greatest number that a packet can tell.

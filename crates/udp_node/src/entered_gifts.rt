@@ -8,7 +8,8 @@ use packet_wire::{Body, Packet};
 use spawn_frame::{Attempt, Site};
 use std::alloc::Global;
 
-/// How many children are kept at most: more than a site has of others at one time, as a rule.
+/// How many children are kept at most: more than a site has of others at one time, as a rule. Chosen, not measured;
+/// what isn't kept is received once more.
 const MOST: usize = 1_024;
 
 /// A child of another site, at one of its attempts.

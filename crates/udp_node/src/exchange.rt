@@ -17,6 +17,7 @@ use std::marker::PhantomData;
 use std::sync::Wait;
 
 /// How many prefixes wait for a worker at most. What it is told beyond that it doesn't hear, and may have to search.
+/// Chosen, not measured.
 pub const INBOX: usize = 256;
 
 /// Where the workers of a node tell each other below which prefixes there is no cover. Each has searched but a part of the tree, and

@@ -11,7 +11,8 @@ use std::time::Duration;
 /// as long as others have some, and who asks sooner gets it sooner.
 const EAGER: u32 = 1_024;
 
-/// A worker asks another site for work at the first and at each so many idle turns in a row.
+/// A worker asks another site for work at the first and at each so many idle turns in a row: each request is an entry
+/// of two books. Chosen, not measured.
 const ASKING: u32 = 64;
 
 /// What a worker does in a turn in which it found nothing to do.

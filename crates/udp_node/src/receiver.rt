@@ -22,10 +22,12 @@ use std::time::{Clock, Duration};
 /// How many bytes a receive takes: one more than the longest packet has, so that a longer datagram is seen.
 const BUFFER: usize = LONGEST_PACKET + 1;
 
-/// How many strangers' datagrams are passed over before the thread does something else: a flood counts as nothing that came.
+/// How many strangers' datagrams are passed over before the thread does something else: a flood counts as nothing that
+/// came. Chosen, not measured.
 const FLOOD: u32 = 1_024;
 
-/// How many failed receives in a row end a site.
+/// How many failed receives in a row end a site: one is no reason to give up, and a link that was closed fails each
+/// time. Chosen, not measured.
 const FAULTS: u32 = 100;
 
 /// How long the thread waits after an empty receive, in microseconds: a link in memory doesn't wait by itself, and at the end no

@@ -2,10 +2,12 @@
 //! same states once more. They come back after thousands of visits that saved less, of however many searches: one long search wouldn't be
 //! seen where jobs are short.
 
-/// Where kept states save so many visits for each that is made, one worker of a node is as fast as several.
+/// Where kept states save so many visits for each that is made, one worker of a node is as fast as several. To work
+/// alone where they save a fifth was tried and not kept (`bench/TRIED.md`); the number itself was chosen.
 const SOLE: u64 = 1_000;
 
-/// So many visits that save less show that they don't.
+/// So many visits that save less show that they don't: more than the first job of a run may make, 24,000. Chosen, not
+/// measured.
 const TELLING: u64 = 30_000;
 
 /// What a worker's searches show of how much its kept states save.

@@ -15,7 +15,8 @@ const LAST: u64 = 1_000;
 /// How long after one another the registry announces the end, once the search is over, in microseconds.
 const END_PAUSE: u64 = 100;
 
-/// How often it announces it again before it ends.
+/// How often it announces it again before it ends: for two milliseconds in all, so that thieves that ask can't delay
+/// the end. Chosen, not measured.
 const END_AGAINS: u64 = 20;
 
 /// For how long a site goes on that is to end while packets still come, in microseconds: the registry's announcement may be among them.

@@ -8,7 +8,8 @@ use site_network::Link;
 use std::sync::Wait;
 use std::time::Clock;
 
-/// How many parcels a look sends at most, so that the looks of a thread come to an end.
+/// How many parcels a look sends at most, so that the looks of a thread come to an end: an outbox full. Chosen, not
+/// measured.
 const BURST: u64 = 1_024;
 
 /// How sending ended. Counts stop at the greatest number.

@@ -15,10 +15,11 @@ const LOOKS: u32 = 10_000;
 /// How long it waits between two looks, in microseconds.
 const NAP: u64 = 100;
 
-/// How long a thread that waits to be roused waits at most, in seconds. Nobody relies on it, since each rousing leaves a token.
+/// How long a thread that waits to be roused waits at most, in seconds. Nobody relies on it, since each rousing leaves
+/// a token. Chosen: once a minute costs nothing.
 const DOZE: u64 = 60;
 
-/// How many workers a node has at most.
+/// How many workers a node has at most, as `--workers` allows.
 const WORKERS: usize = 8;
 
 /// What the threads of a site signal to one another without the lock of the core. No answer depends on it: it says when a look at the

@@ -22,7 +22,8 @@ use std::sync::Wait;
 use std::thread::Threads;
 use std::time::Clock;
 
-/// How many children a node may name.
+/// How many children a node may name in an incarnation: some 100 MB of them. Beyond that it splits no job, and searches
+/// it with more fuel. Chosen, not measured.
 const NAMES: u32 = 1_000_000;
 
 /// What the sites of a run share.
