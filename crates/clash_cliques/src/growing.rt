@@ -1,4 +1,8 @@
 //! The search for cliques.
+//!
+//! Integer programming calls them clique inequalities of the conflict graph (Padberg): of options that clash by twos at
+//! most one is chosen. The options of an item are such a clique already; each is grown to a larger one, greedily, since
+//! largest cliques are hard to find.
 
 ghost use Rattle.std.specs.Prelude.{◌≡◌, ◌<◌, length};
 

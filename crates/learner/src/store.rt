@@ -1,4 +1,7 @@
 //! The learned clauses of two or more literals, by number.
+//!
+//! All literals stand in one list, one clause behind the other, and clauses are numbers into it (an arena, as in
+//! MiniSat). Dropped clauses leave gaps until `compact` moves the others together.
 
 use crate::packed::Packed;
 use crate::tables::{at, put};
