@@ -15,7 +15,7 @@ use cover_reasons::ReasonWatch;
 use itoa::Buffer;
 use std::alloc::{AllocError, Global};
 
-/// How many words of sets are looked at, some hundredths of a second.
+/// How many words of sets are looked at, some hundredths of a second. Chosen for that time.
 const MOST_STEPS: usize = 20_000_000;
 
 /// How many cliques are kept: each is a further item, of which a problem has at most 1,000. Chosen, not measured.

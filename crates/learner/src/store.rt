@@ -25,7 +25,8 @@ pub struct Learned {
 /// Of a literal: 2 bytes here, twice while the clauses are moved together and twice since lists grow, and 4 in the kernel.
 const LITERAL_BYTES: u64 = 12;
 
-/// Of a clause: its numbers, two nodes of its watches, and its place in the kernel.
+/// Of a clause: its numbers, two nodes of its watches, and its place in the kernel. An estimate from above, not
+/// measured.
 const CLAUSE_BYTES: u64 = 256;
 
 /// No clause.
