@@ -6,7 +6,7 @@ use itoa::Buffer;
 use std::alloc::{AllocError, Global};
 use std::io;
 
-/// So many bytes wait to be written together.
+/// So many bytes wait to be written together. Chosen, not measured.
 const MOST_WAITING: usize = 1 << 16;
 
 /// Returns the two lines at the head: what is shown, by which kind of lines, and how large the problem is. The only error is out of memory.

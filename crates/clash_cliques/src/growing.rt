@@ -1,4 +1,8 @@
 //! The search for cliques.
+//!
+//! Integer programming calls them clique inequalities of the conflict graph (Padberg): of options that clash by twos at
+//! most one is chosen. The options of an item are such a clique already; each is grown to a larger one, greedily, since
+//! largest cliques are hard to find.
 
 ghost use Rattle.std.specs.Prelude.{◌≡◌, ◌<◌, length};
 
@@ -11,7 +15,7 @@ use cover_reasons::ReasonWatch;
 use itoa::Buffer;
 use std::alloc::{AllocError, Global};
 
-/// How many words of sets are looked at, some hundredths of a second.
+/// How many words of sets are looked at, some hundredths of a second. Chosen for that time.
 const MOST_STEPS: usize = 20_000_000;
 
 /// How many cliques are kept: each is a further item, of which a problem has at most 1,000. Chosen, not measured.

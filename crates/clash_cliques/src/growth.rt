@@ -1,4 +1,7 @@
 //! A clique that grows.
+//!
+//! A greedy choice: of some candidates the one that clashes with most others goes in, and those that don't clash with
+//! it are candidates no more. Sets are words of 64 bits, so a comparison is a pass of `and` and a count of bits.
 
 ghost use Rattle.std.specs.Prelude.{◌≡◌};
 

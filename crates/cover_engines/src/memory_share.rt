@@ -3,7 +3,8 @@
 /// How many bytes the books of a run may take where nobody knows how much memory the machine has: a gigabyte.
 pub const USUAL_BOOK_BYTES: u64 = 1_000_000_000;
 
-/// The books of a run may take one of so many equal parts of the machine's memory.
+/// The books of a run may take one of so many equal parts of the machine's memory, so that it stays usable, also if
+/// several runs go on (docs/DECISIONS.md). Chosen, not measured.
 const PARTS: u64 = 10;
 
 /// How many bytes a kilobyte has in the text of `/proc/meminfo`.

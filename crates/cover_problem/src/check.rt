@@ -1,9 +1,9 @@
 //! The checker of covers. It shares nothing with the searches: only the problem and the list count.
 //!
 //! The registry asks it before a cover enters, under its lock; the learner before it answers with one; `solve_cli
-//! check` for a file of answers. Hence one pass over the items that the list names, with marks on the stack (`naming`),
-//! and no memory that could be refused. The order of the tests is part of the verdict; a number that is no option's is
-//! found before any option is read.
+//! check` for an answer in a file. Hence one pass over the items that the list names, with marks on the stack
+//! (`naming`), and no memory that could be refused. The order of the tests is part of the verdict; a number that is no
+//! option's is found before any option is read.
 
 ghost use Rattle.std.specs.Prelude.{◌≡◌, true, ◌↔◌};
 ghost use Rattle.cover_problem.specs.ExactCover.{IsExactCover};

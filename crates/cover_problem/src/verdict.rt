@@ -1,3 +1,7 @@
+//! What `check_cover` says. The registry and the learner read only whether it is `Exact`; `solve_cli check` also writes
+//! which item is wrong. `ChosenTwice` has a place of its own, since a list that names an option twice also covers its
+//! items twice.
+
 /// What a test of a list of options answers: the first of these that holds.
 #[derive(Clone, Copy, Debug, PartialEq, Eq)]
 pub enum Verdict {

@@ -1,4 +1,8 @@
 //! The nodes of an option cover their items one after the other; an item that has its colour already is not covered again.
+//!
+//! `commit` is Knuth's name (TAOCP 7.2.2.1, Algorithm C). His purified nodes get a negative colour, so that later
+//! options know that the item has its colour. Here each item counts the chosen options that gave it one: the first
+//! covers it, and no node changes.
 
 ghost use Rattle.std.specs.Prelude.{◌≡◌, ◌<◌, ◌≤◌, ◌+◌, ◌∷◌, [], drop, length, take};
 ghost use Rattle.std.specs.List.{All};

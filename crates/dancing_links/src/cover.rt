@@ -1,5 +1,9 @@
 //! Covering of items: their keys get a mark, and the options that name them leave the columns of their other items, but for those
 //! that give an item the colour that it gets.
+//!
+//! This is Knuth's `cover` with `hide` (TAOCP 7.2.2.1), and his `purify` for colours. There are three differences. An
+//! item leaves no list of items: its key is marked. Each node that leaves goes on a trail, so uncovering reads the
+//! trail backwards and walks down no column. And of a colour no node is marked: a node that agrees simply stays.
 
 ghost use Rattle.std.specs.Prelude.{◌≡◌, ◌<◌, ◌≤◌, ◌+◌, ◌++◌, drop, length, take};
 ghost use Rattle.std.specs.List.{All};

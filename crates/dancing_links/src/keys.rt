@@ -1,5 +1,8 @@
 //! One key for each item: from low to high its number, how many nodes of its column are in, and whether it is covered. So the
 //! uncovered item with fewest live options, the first of those, has the least key, which a pass without a branch finds.
+//!
+//! Of equal counts the lower item wins by the same comparison, as the order of the search wants it. Knuth walks the
+//! list of items and keeps the best; a pass over all keys, covered ones too, was faster (`bench/TRIED.md`).
 
 ghost use Rattle.std.specs.Prelude.{◌≡◌, ◌<◌, ◌≤◌, ◌+◌, ◌/◌, ◌%◌, [], length, not, nat_lt, if◌then◌else◌, IfOk, MatchOption};
 ghost use Rattle.dancing_links.specs.Columns.{IsTable};

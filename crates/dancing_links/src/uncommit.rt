@@ -1,4 +1,7 @@
 //! The items that nodes covered lose their marks, and the nodes give them no colour any more.
+//!
+//! Taken back in reverse, as all in dancing links: the item is uncovered when the count of those that gave it its
+//! colour is 0 again.
 
 ghost use Rattle.std.specs.Prelude.{◌≡◌, ◌<◌, ◌≤◌, ◌+◌, ◌∷◌, [], length};
 ghost use Rattle.dancing_links.specs.Columns.{colour_at};

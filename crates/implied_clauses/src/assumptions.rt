@@ -1,4 +1,6 @@
 //! What is assumed of options while a clause is tried.
+//!
+//! Marks with a time stamp: to forget all assumptions the round's number rises, and no option is looked at.
 
 ghost use Rattle.std.specs.Prelude.{◌≡◌, ◌^◌, ◌≤◌, length, map, set, replicate, None, Some, IfOk};
 ghost use Rattle.std.specs.List.{slice_get};
@@ -9,8 +11,8 @@ use crate::literal::Literal;
 use std::alloc::{AllocError, Global};
 use std::marker::Model;
 
-/// After so many rounds the marks start again. Any number that 32 bits hold would do: it only keeps the count from
-/// wrapping.
+/// After so many rounds the marks start again. A mark is twice a round's number and one more, in 32 bits, so any number
+/// below 2^31 would do.
 const MOST_ROUNDS: u32 = 1 << 30;
 
 /// What is assumed of each option in the present round. A new round begins with nothing assumed, and without a look at the options.

@@ -1,4 +1,9 @@
 //! Whether a clause follows from others by unit propagation.
+//!
+//! This is the test of proof checkers for SAT: reverse unit propagation, along hints as in LRAT. The clause's literals
+//! are assumed false; where a hint's clause is unit then, its literal is assumed true, until one is violated. So it
+//! takes time in what the hints name, not in all clauses, and needs no watches. A hint whose clause isn't unit is
+//! passed over, where a checker of LRAT would stop.
 
 ghost use Rattle.std.specs.Prelude.{◌≡◌, ◌==◌, ◌&&◌, ◌||◌, not, length, Bool, List, Option};
 ghost use Rattle.cover_problem.specs.Prefix.{clash};

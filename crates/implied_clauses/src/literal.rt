@@ -1,3 +1,6 @@
+//! Literals, and hints as in LRAT: the clauses that a checker reads, in their order. Clashes have no number, since no
+//! list of them is made.
+
 /// A statement about an option of a set of options.
 #[derive(Clone, Copy, Debug, PartialEq, Eq)]
 pub enum Literal {

@@ -1,4 +1,7 @@
 //! How many options of each primary item are not left, and which one of them is chosen.
+//!
+//! Counters in place of watched literals, as solvers have them for cardinality constraints: an item is looked at only
+//! once all of its options but one are left.
 
 use crate::layout::Layout;
 use crate::packed::Packed;

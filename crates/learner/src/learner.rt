@@ -1,4 +1,15 @@
 //! Conflict-driven learning over the items of a problem.
+//!
+//! The loop is MiniSat's (Eén and Sörensson): propagate; at a conflict learn its first unique implication point and
+//! jump back; else restart by Luby's sequence, drop clauses where there are too many, and decide. A decision chooses
+//! the most active option that is open; there is no decision that leaves one. At first those are most active whose
+//! items have few options.
+//!
+//! It doesn't read a file of clauses: that an item has one of its options is counted (`counts`), and that two options
+//! clash is read off their items. Only what is learned is watched.
+//!
+//! In a learned clause the choice of an option in place of those that it leaves makes it shorter; that was tried and
+//! not kept, since some timetables then had no cover in time (`bench/TRIED.md`).
 
 ghost use Rattle.std.specs.Prelude.{◌≡◌, ℕ, List, true, IfOk};
 ghost use Rattle.cover_problem.specs.Prefix.{IsBarren};

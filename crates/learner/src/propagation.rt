@@ -1,4 +1,8 @@
 //! Unit propagation over items, clashes and learned clauses.
+//!
+//! Three kinds of clauses, each in the form that is cheapest for it. An item all of whose options but one are left
+//! chooses that one, by a counter for each item. A chosen option leaves all that clash with it, by a walk over its
+//! items. Learned clauses have two watched literals (Chaff).
 
 use crate::assignment::Assignment;
 use crate::layout::{Layout, Naming};

@@ -1,4 +1,8 @@
 //! Which learned clauses are dropped where there are too many.
+//!
+//! The worse half goes, by Glucose's measure: clauses whose literals became false at many levels, and of equal ones
+//! those that weren't used for longest. Clauses of two literals and those that are the cause of a literal stay. All
+//! watches are made again then, which is simpler than to find those of dropped clauses.
 
 ghost use Rattle.std.specs.Prelude.{◌≡◌};
 

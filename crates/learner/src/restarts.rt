@@ -1,4 +1,7 @@
 //! After how many conflicts the search begins again with what it has learned.
+//!
+//! Luby's sequence is within a factor of the logarithm of the best sequence for any search whose times vary by luck.
+//! The unit was measured on two kinds of problems alone.
 
 /// The unit of the sequence, in conflicts: measured on timetables and quasigroups.
 const UNIT: u64 = 64;

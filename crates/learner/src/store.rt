@@ -1,4 +1,7 @@
 //! The learned clauses of two or more literals, by number.
+//!
+//! All literals stand in one list, one clause behind the other, and clauses are numbers into it (an arena, as in
+//! MiniSat). Dropped clauses leave gaps until `compact` moves the others together.
 
 use crate::packed::Packed;
 use crate::tables::{at, put};
@@ -22,7 +25,8 @@ pub struct Learned {
 /// Of a literal: 2 bytes here, twice while the clauses are moved together and twice since lists grow, and 4 in the kernel.
 const LITERAL_BYTES: u64 = 12;
 
-/// Of a clause: its numbers, two nodes of its watches, and its place in the kernel.
+/// Of a clause: its numbers, two nodes of its watches, and its place in the kernel. An estimate from above, not
+/// measured.
 const CLAUSE_BYTES: u64 = 256;
 
 /// No clause.

@@ -1,4 +1,7 @@
 //! What is chosen and left so far, in which order, at which level, and why.
+//!
+//! The trail and the levels are MiniSat's. A literal's cause is its clause, but for clashes and items no clause is
+//! stored: the cause says which.
 
 ghost use Rattle.std.specs.Prelude.{◌≤◌};
 

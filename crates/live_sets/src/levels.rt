@@ -1,4 +1,8 @@
 //! What is kept of each level: its live options, how many name each primary item, and the least key of these.
+//!
+//! Backtracking by copying: a level is never repaired, only left. That costs a copy of all words at each choice, which
+//! is cheap while there are few of them (two or four have code of their own), and dear for many options. Dancing links
+//! are the other way round.
 
 ghost use Rattle.std.specs.Prelude.{◌≡◌, ◌+◌, ◌*◌, ◌<◌, ◌≤◌, [], ◌∷◌, ◌++◌, length, IfOk};
 ghost use Rattle.option_sets.specs.Sets.{words_of};

@@ -1,4 +1,9 @@
 //! How many live options name each primary item, digit by digit, where there are few of both.
+//!
+//! The counts are bit-sliced (`item_planes`), so an option is counted off for 64 items at once. A choice has two ways
+//! to get the next level's counts: from the last ones, option by option that left, or from nothing, option by option
+//! that stayed. Deep in a search few stay. From which depth on that is less work is estimated once (`turn`);
+//! `bench/TRIED.md` has what it saved. 65 to 128 items are two halves.
 
 ghost use Rattle.std.specs.Prelude.{◌≡◌, ℕ, ◌+◌, ◌*◌, ◌<◌, ◌≤◌, [], ◌∷◌, ◌++◌, List, length, ◌==◌, true, false, IfOk, IsTrue};
 ghost use Rattle.std.specs.Int.{bit_at};

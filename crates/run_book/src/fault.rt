@@ -1,3 +1,6 @@
+//! What becomes of these: a full book ends its thread, with that as the cause. Where memory ran out the thread waits a
+//! little and tries again.
+
 use node_core::ActFault;
 
 /// Why an event was not entered.

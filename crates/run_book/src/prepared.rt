@@ -1,5 +1,5 @@
-//! All that can fail for lack of memory, done before the lock is taken and the core acts. Three owners need the event:
-//! the core, the book and the caller, to whom it returns, entered or refused. Two need the packets.
+//! What may fail for lack of memory and needs no lock is done before the lock is taken and the core acts. Three owners
+//! need the event: the core, the book and the caller, to whom it returns, entered or refused. Two need the packets.
 
 ghost use Rattle.std.specs.Prelude.{◌≡◌, ◌≤◌, [], length, vec_capacity, IfErr, IfOk};
 ghost use Rattle.run_book.specs.RecordedCores.{prefix_in, room_for};

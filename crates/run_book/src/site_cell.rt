@@ -1,10 +1,10 @@
 //! A monitor: a site's core and its book behind one mutex, so that each event is one step and one entry, in one order
 //! for all threads.
 //!
-//! Little is done under the lock. The event's copies and all room are made before (`Prepared`), packets become bytes
-//! after it, and what never changes is beside it. Who wants to act needs a seat of this cell, and gets a receipt for
-//! each entry; the book comes out again only for all of them (`close`, `settle`). So no thread can act in secret, and
-//! no entry can be lost.
+//! Little is done under the lock. The event's copies and the room for its answer are made before (`Prepared`), packets
+//! become bytes after it, and what never changes is beside it. Who wants to act needs a seat of this cell, and gets a
+//! receipt for each entry; the book comes out again only for all of them (`close`, `settle`). So no thread can act in
+//! secret, and no entry can be lost.
 //!
 //! The proof knows of a value under a lock only what its type says. Hence the type parameters: `N` names the cell, `J`
 //! the run.

@@ -20,7 +20,7 @@ use std::marker::Brand;
 use std::time::Clock;
 use used_items::{WithUsedItems, with_used_items_until};
 
-/// How many bytes may be taken by what is learned.
+/// How many bytes may be taken by what is learned: half of what a learner takes by default. Chosen, not measured.
 const LEARNED: u64 = 1 << 28;
 
 /// Returns the answer of a walk that has ended, with a cover's options in the order of the file. The only error is out of memory.

@@ -8,6 +8,7 @@ use std::fmt::{self, Display, Formatter, Write};
 /// A millionth of the tree. A forecast wants a hundred of them: with less behind it, how fast a search goes says little.
 const PART: u64 = TreeEstimate::WHOLE / 1_000_000;
 
+/// How many of them there have to be. Chosen, not measured.
 const LEAST: u64 = 100;
 
 /// After so many seconds there is a forecast: the first ones would swing from line to line.

@@ -15,7 +15,7 @@ use cover_problem::{Answer, Problem};
 use dlx_reader::{AnswerFault, Read, ReadFault, Source, TextFault, read_answer, read_text};
 use std::alloc::Global;
 
-/// How many bytes one read asks for.
+/// How many bytes one read asks for. Chosen, not measured.
 const PIECE: usize = 16384;
 
 /// Reads all bytes, to the end of the source.

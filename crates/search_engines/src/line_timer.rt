@@ -11,10 +11,13 @@ const PAUSE: u64 = 1;
 /// fills a page, and its first minute shows each second.
 const LONG: u64 = 60;
 
+/// How long the pause is then, in seconds. Chosen, not measured, as the next two.
 const LONG_PAUSE: u64 = 10;
 
+/// After how many seconds it is longest: an hour.
 const LONGEST: u64 = 3_600;
 
+/// How long it is then, in seconds.
 const LONGEST_PAUSE: u64 = 60;
 
 /// When the next line is due. Where the clock can't be read none is.

@@ -9,7 +9,8 @@ use question_walk::{QuestionWalk, WalkEnd};
 use std::marker::{Brand, PhantomData};
 use std::time::{Clock, Duration};
 
-/// For how many milliseconds the search and the walk go on in turn.
+/// For how many milliseconds the search and the walk go on in turn. Chosen: what the search decides in a tenth of a
+/// second takes little longer, and what takes it longer at most twice as long (docs/DECISIONS.md).
 const TURN: u64 = 50;
 
 /// Names a problem to the prover. Nothing of it is there when the program runs.

@@ -15,7 +15,8 @@ const PLENTY: u64 = 30;
 /// default that is 24,000 visits, and the second trial is within them (`trials` of brancher).
 const FIRST: u64 = 24;
 
-/// A search that saves many visits by the states that are kept gets so many times the base at most.
+/// A search that saves many visits by the states that are kept gets so many times the base at most: 16,000,000 by
+/// default. Chosen, not measured.
 const LONGEST: u64 = 16_000;
 
 /// Of so many visits that a worker has made, a job in plenty gets one, taken eightfold then: a 128th. Chosen, not

@@ -10,8 +10,9 @@ use crate::pace::Quota;
 use brancher::Watch;
 use std::sync::atomic::{AtomicBool, Ordering};
 
-/// A search that keeps states goes on at its limit, up to twice as many visits, if so many times as many are gone as it has made; at each
-/// limit behind it has to be twice as many times. So it goes on where states repeat in all that it searches, not where some do.
+/// A search that keeps states goes on at its limit, up to twice as many visits, if so many times as many are gone as it
+/// has made; at each limit behind it has to be twice as many times. So it goes on where states repeat in all that it
+/// searches, not where some do. Chosen, not measured.
 const MANY: u64 = 2;
 
 /// Stops a worker's search once its site is to end, or, if it keeps states, once it has made so many visits as it may; shows it to the follower

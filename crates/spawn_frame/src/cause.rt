@@ -1,3 +1,6 @@
+//! The byte of a Refuse packet. No site reads it: whatever the cause, the guest is dropped. It is for whoever reads a
+//! book.
+
 /// Why a result is refused.
 #[derive(Clone, Copy, Debug, PartialEq, Eq)]
 pub enum Cause {

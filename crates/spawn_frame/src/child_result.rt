@@ -1,3 +1,6 @@
+//! What goes up the tree: from a search or a frame to its parent's frame, and by Return and Accept between sites. A
+//! child whose fuel ran out has no result; it becomes a frame.
+
 ghost use Rattle.std.specs.Prelude.{◌≡◌, IfOk};
 
 use cover_problem::Numbers;

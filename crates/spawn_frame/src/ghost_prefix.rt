@@ -1,3 +1,6 @@
+//! Ghost data, so that contracts can say of each unit which prefix it has, although the program stores one option a
+//! child.
+
 ghost use Rattle.std.specs.Prelude.{◌≡◌, ◌++◌, ◌∷◌, ℕ, List, []};
 ghost use Rattle.std.specs.Borrow.{ftrue};
 

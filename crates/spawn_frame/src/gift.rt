@@ -1,3 +1,5 @@
+//! What a Give carries, or one of the children of a GiveMany; at the thief it becomes a guest.
+
 use crate::site::Attempt;
 use cover_problem::Numbers;
 

@@ -1,4 +1,7 @@
 //! Which unit is next, and what is worked on.
+//!
+//! A worker goes depth first, as in Cilk: it takes the own child of greatest serial, which was made last. So few frames
+//! are open at a time, as a rule. Guests come last: what they are split into are own children, and these come first.
 
 ghost use Rattle.std.specs.Prelude.{◌≡◌, IfSome, MatchOption, option_map, true};
 ghost use Rattle.std.specs.Bool.{OnTrue};

@@ -1,3 +1,6 @@
+//! A summary of a page: a walk for the next unit looks at one summary in place of 256 children. Each change of a child
+//! makes it again, in a pass through its page, and only a child that is added is put to it by itself.
+
 ghost use Rattle.std.specs.Prelude.{◌≡◌, ◌++◌, ◌∷◌, [], List};
 
 use crate::child::Child;

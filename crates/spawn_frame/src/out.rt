@@ -1,3 +1,6 @@
+//! What an abort leaves to be said: it becomes an Abort packet to the thief. The attempt is the one that the thief
+//! knows.
+
 use crate::site::{Attempt, Site};
 
 /// An own child that was out when it was aborted, so that its thief has to hear of it.

@@ -1,3 +1,5 @@
+//! One step of a walk from a unit up to the root: prefixes are linked lists from child to parent, read from the end.
+
 use crate::unit::Unit;
 
 /// What the prefix of a unit is made of.

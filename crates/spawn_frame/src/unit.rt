@@ -1,9 +1,9 @@
 //! What workers take up, and the names by which a core speaks of it.
 //!
-//! Cilk has frames on a stack; here each site has a table, and a unit is a key of it. A guest's key has the attempt, so
-//! a child that was redone and comes once more is another guest. A job is the ticket for a unit: a Post is refused as
-//! stale (`StaleJob`) unless the unit is still in a worker's hands at that attempt. So a worker needn't hear that its
-//! unit was aborted meanwhile: its result is late, and nothing changes.
+//! Cilk keeps its frames in a deque; here each site has a table, and a unit is a key of it. A guest's key has the
+//! attempt, so a child that was redone and comes once more is another guest. A job is the ticket for a unit: a Post is
+//! refused as stale (`StaleJob`) unless the unit is still in a worker's hands at that attempt. So a worker needn't hear
+//! that its unit was aborted meanwhile: its result is late, and nothing changes.
 
 use crate::site::{Attempt, ChildName};
 

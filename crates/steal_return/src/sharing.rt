@@ -1,4 +1,9 @@
 //! Which of its ready children a site gives.
+//!
+//! Work stealing, with Cilk's two rules: workers take the newest child, thieves get the oldest, which as a rule is
+//! nearest to the root and so the largest. A thief gets more than one: half of the ready children of that parent,
+//! rounded up (steal-half, as of Hendler and Shavit), so that it needn't ask again at once. Eight go into one packet,
+//! and more than that are never given.
 
 ghost use Rattle.std.specs.Prelude.{◌≡◌, ◌<◌, ◌∷◌, [], length, slice_get, take, Some};
 ghost use Rattle.spawn_frame.specs.Picks.{is_ready};

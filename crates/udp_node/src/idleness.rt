@@ -7,8 +7,9 @@ ghost use Rattle.std.specs.Prelude.{◌≤◌};
 
 use std::time::Duration;
 
-/// In so many idle turns in a row only every 32nd waits, then in as many more every sixteenth, and so on down to each: work is near
-/// as long as others have some, and who asks sooner gets it sooner.
+/// In so many idle turns in a row only every 32nd waits, then in as many more every sixteenth, and so on down to each:
+/// work is near as long as others have some, and who asks sooner gets it sooner. In a simulation of four workers the
+/// idle time fell from 2.5 to 1.2 % (`bench/TRIED.md`); the number itself was chosen.
 const EAGER: u32 = 1_024;
 
 /// A worker asks another site for work at the first and at each so many idle turns in a row: each request is an entry

@@ -9,7 +9,8 @@ use site_limits::Timing;
 /// How many microseconds a millisecond has.
 const MILLI: u64 = 1_000;
 
-/// How many times longer a site lasts that no incarnation follows.
+/// How many times longer a site lasts that no incarnation follows: four seconds for each turn in place of four
+/// milliseconds. Chosen, not measured.
 const LAST: u64 = 1_000;
 
 /// How long after one another the registry announces the end, once the search is over, in microseconds.
@@ -19,7 +20,8 @@ const END_PAUSE: u64 = 100;
 /// the end. Chosen, not measured.
 const END_AGAINS: u64 = 20;
 
-/// For how long a site goes on that is to end while packets still come, in microseconds: the registry's announcement may be among them.
+/// For how long a site goes on that is to end while packets still come, in microseconds: the registry's announcement
+/// may be among them. Chosen, not measured.
 const GRACE: u64 = 1_000_000;
 
 /// When the thread that receives at a site acts although nothing came. All times are in microseconds of the thread's own

@@ -5,7 +5,7 @@ use std::sync::Wait;
 use std::thread;
 use std::time::{Clock, Duration};
 
-/// How long a thread waits where memory ran out, in milliseconds.
+/// How long a thread waits where memory ran out, in milliseconds. Chosen, not measured.
 const SHORTAGE: u64 = 1;
 
 /// Counts a turn, and waits a little if memory ran out, so that others may give some back. Returns the cause if the thread ends by it.

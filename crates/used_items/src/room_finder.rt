@@ -11,7 +11,7 @@ use cover_problem::Problem;
 use cover_reasons::{ReasonWatch, Room};
 use std::alloc::{AllocError, Global};
 
-/// About how many items of options are looked at, a tenth of a second.
+/// About how many items of options are looked at, a tenth of a second. Chosen for that time.
 const MOST_STEPS: usize = 20_000_000;
 
 /// Needs and rooms of several classes together.
