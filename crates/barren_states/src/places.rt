@@ -1,4 +1,9 @@
 //! Which slots a key may have.
+//!
+//! The key is hashed whole at each look, word by word, by a multiplication and a shift as in MurmurHash3. Zobrist's
+//! hashing, by which game programs change a hash at each move, would cost something at each choice, also where nothing
+//! is looked for. The hash becomes a slot by a multiplication (Lemire's range reduction), not by a remainder, so the
+//! number of slots may be any.
 
 ghost use Rattle.std.specs.Prelude.{◌<◌, ◌≤◌};
 

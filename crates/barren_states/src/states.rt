@@ -26,7 +26,8 @@ pub const MOST_WORDS: usize = 1_024;
 /// plain search's instructions and not 0.373 (`bench/TRIED.md`).
 const FIRST_BYTES: usize = 1 << 18;
 
-/// The most slots. Chosen, not measured: with keys of one word they are 73 GB.
+/// The most slots: a place is scaled from 32 bits of a hash (`places`), so no more would be reached. With keys of one
+/// word they are 73 GB.
 const MOST_SLOTS: u64 = 1 << 32;
 
 /// States that are known by keys of one width, and of each how many visits it takes. Only `build` takes memory.

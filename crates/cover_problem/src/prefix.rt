@@ -2,11 +2,10 @@
 //!
 //! Two kinds of functions are here. `clash`, `is_live` and `is_covered` follow their definitions pair by pair. They
 //! serve where few options are looked at: a hint of a learned clause, an option of a clique, the option that a gift
-//! adds. `is_prefix` has to be fast: a node tests by it each prefix that a packet brings, under its lock. So it makes
-//! one pass over the items with a mark for each (`marking`), on the stack.
+//! adds. `is_prefix` has to be fast: a node tests by it each new prefix that a packet brings, under its lock. So it
+//! makes one pass over the items with a mark for each (`marking`), on the stack.
 //!
-//! Options may agree on a secondary item in a colour (DLX2); `agree` is the one place where two options are compared by
-//! colour.
+//! Options may agree on a secondary item in a colour (DLX2); `agree` says so of two, the marks of `marking` of many.
 
 ghost use Rattle.std.specs.Prelude.{◌≡◌, ◌<◌, ◌≤◌, ◌+◌, length, not, ◌&&◌, ◌↔◌, IfOk, IsTrue};
 ghost use Rattle.cover_problem.specs.ExactCover.{in_order};

@@ -1,4 +1,6 @@
 //! The two sides of a problem whose options name two primary items each, as the light and the dark squares of a board.
+//!
+//! A bipartition, found by a breadth-first search from item to item by way of the options that name them.
 
 ghost use Rattle.std.specs.Prelude.{◌≡◌, ◌<◌, length};
 

@@ -1,4 +1,8 @@
 //! The search without a limit: each prefix decides by its children, one after the other (TAOCP 7.2.2.1).
+//!
+//! A recursion, and not the loop of `brancher` with a fuel that may be lacking: the proof of that was begun, and saved
+//! too little (docs/DECISIONS.md). It is no deeper than a prefix is long. Backtracking, branch item and kept states are
+//! as there.
 
 ghost use Rattle.std.specs.Prelude.{◌≡◌, IfSome};
 ghost use Rattle.brancher.specs.Keeping.{IsKnown};

@@ -1,4 +1,7 @@
 //! One binary digit of all counts: bit `i` is that of item `i`.
+//!
+//! A half subtractor, 64 times side by side: the digit is the exclusive or with the borrow, and the next borrow is
+//! where both are 1 then.
 
 ghost use Rattle.std.specs.Prelude.{◌≡◌, ℕ, ◌+◌, ◌*◌, ◌<◌, ◌≤◌};
 ghost use Rattle.std.specs.Int.{bit_at};

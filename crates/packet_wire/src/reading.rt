@@ -1,4 +1,8 @@
 //! Reading packets from bytes.
+//!
+//! A packet has one spelling (a canonical encoding), and nothing else is read: no unknown kinds, no spare bytes, no two
+//! ways to write a list. So equal packets are equal bytes, and bytes of a stranger that are no packet are seen as such.
+//! What is refused is named by its first fault.
 
 ghost use Rattle.std.specs.Prelude.{◌≡◌, true, IfOk, None, Ok};
 ghost use Rattle.packet_wire.specs.Spelling.{spelling};

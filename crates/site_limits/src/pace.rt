@@ -1,4 +1,8 @@
 //! How much a worker searches before it posts what came of it.
+//!
+//! This is control of granularity. Small jobs fill books with entries and queues with packets; large ones leave workers
+//! idle at a run's end. So a job grows with what its worker has searched, is small while somebody asks in vain, and is
+//! split at once where searches of prefixes as long as its own ran out before. Only speed depends on it.
 
 ghost use Rattle.std.specs.Prelude.{◌≤◌, IfOk};
 
