@@ -66,82 +66,6 @@ fn cause_by_used_items<W: ReasonWatch>(
     }
 }
 
-/// A cause by items for cliques. The only error is out of memory.
-fn cause_by_cliques<W: ReasonWatch>(
-    alloc: Global,
-    problem: &Problem,
-    watch: &mut W,
-) -> Result<Option<Cause>, AllocError>
-    ensures cause { IfOk result (λ found. IfSome found (IsCause problem.now)) }
-    ensures barren { IfOk result (λ found. IfSome found (λ cause. IsBarren problem.now [])) }
-{
-    match find_room_by_cliques(alloc, problem, watch)? {
-        Some(by) => Ok(Some(Cause::ByCliques(by))),
-        None => Ok(None),
-    }
-}
-
-/// A cause by what the problem implies: items that each exact cover uses, or cliques. The only error is out of memory.
-fn cause_by_implied<W: ReasonWatch>(
-    alloc: Global,
-    problem: &Problem,
-    watch: &mut W,
-) -> Result<Option<Cause>, AllocError>
-    ensures cause { IfOk result (λ found. IfSome found (IsCause problem.now)) }
-    ensures barren { IfOk result (λ found. IfSome found (λ cause. IsBarren problem.now [])) }
-{
-    match cause_by_used_items(alloc, problem, watch)? {
-        Some(cause) => Ok(Some(cause)),
-        None => cause_by_cliques(alloc, problem, watch),
-    }
-}
-
-/// A cause by the options of an item. The only error is out of memory.
-fn cause_by_cases<W: ReasonWatch>(
-    alloc: Global,
-    problem: &Problem,
-    watch: &mut W,
-) -> Result<Option<Cause>, AllocError>
-    ensures cause { IfOk result (λ found. IfSome found (IsCause problem.now)) }
-    ensures barren { IfOk result (λ found. IfSome found (λ cause. IsBarren problem.now [])) }
-{
-    match find_cases_until(alloc, problem, watch)? {
-        Some(cases) => Ok(Some(Cause::ByCases(cases))),
-        None => Ok(None),
-    }
-}
-
-/// A cause by multipliers of any size, or else by cases. The only error is out of memory.
-fn cause_by_multipliers_or_cases<W: ReasonWatch>(
-    alloc: Global,
-    problem: &Problem,
-    watch: &mut W,
-) -> Result<Option<Cause>, AllocError>
-    ensures cause { IfOk result (λ found. IfSome found (IsCause problem.now)) }
-    ensures barren { IfOk result (λ found. IfSome found (λ cause. IsBarren problem.now [])) }
-{
-    match find_fractional_reason_until(alloc, problem, watch)? {
-        Some(reason) => Ok(Some(Cause::AsItStands(reason))),
-        None => cause_by_cases(alloc, problem, watch),
-    }
-}
-
-/// A cause that takes longer to find than a short reason: by what the problem implies, or else by multipliers of any size, which take longer, or
-/// else by cases, for each of which such multipliers are looked for once more.
-fn cause_at_length<W: ReasonWatch>(
-    alloc: Global,
-    problem: &Problem,
-    watch: &mut W,
-) -> Result<Option<Cause>, AllocError>
-    ensures cause { IfOk result (λ found. IfSome found (IsCause problem.now)) }
-    ensures barren { IfOk result (λ found. IfSome found (λ cause. IsBarren problem.now [])) }
-{
-    match cause_by_implied(alloc, problem, watch)? {
-        Some(cause) => Ok(Some(cause)),
-        None => cause_by_multipliers_or_cases(alloc, problem, watch),
-    }
-}
-
 /// Why the problem has no exact cover, as it stands, with those items primary that each exact cover uses, with items for cliques of options
 /// that clash, or by cases, if that is found before the watch ends it. Where none is found there may be a cover or none. The only error is out of memory.
 pub fn find_cause_until<W: ReasonWatch>(
@@ -152,9 +76,22 @@ pub fn find_cause_until<W: ReasonWatch>(
     ensures cause { IfOk result (λ found. IfSome found (IsCause problem.now)) }
     ensures barren { IfOk result (λ found. IfSome found (λ cause. IsBarren problem.now [])) }
 {
-    match find_short_reason_until(alloc, problem, watch)? {
-        Some(reason) => Ok(Some(Cause::AsItStands(reason))),
-        None => cause_at_length(alloc, problem, watch),
+    if let Some(reason) = find_short_reason_until(alloc, problem, watch)? {
+        return Ok(Some(Cause::AsItStands(reason)));
+    }
+    if let Some(cause) = cause_by_used_items(alloc, problem, watch)? {
+        return Ok(Some(cause));
+    }
+    if let Some(by) = find_room_by_cliques(alloc, problem, watch)? {
+        return Ok(Some(Cause::ByCliques(by)));
+    }
+    // (multipliers of any size: they are looked for once more for each of the cases)
+    if let Some(reason) = find_fractional_reason_until(alloc, problem, watch)? {
+        return Ok(Some(Cause::AsItStands(reason)));
+    }
+    match find_cases_until(alloc, problem, watch)? {
+        Some(cases) => Ok(Some(Cause::ByCases(cases))),
+        None => Ok(None),
     }
 }
 
