@@ -60,7 +60,7 @@ fn refuted(problem: &Problem, learner: &Learner<'_>) -> Found
 }
 
 /// Returns what a search that ended so has found. The only error is out of memory.
-fn told(
+fn found_at(
     alloc: Global,
     problem: &Problem,
     learner: &Learner<'_>,
@@ -93,10 +93,10 @@ pub fn find_cover<W: LearnerWatch>(
     settings: Settings,
     watch: &mut W,
 ) -> Result<(Found, Figures), AllocError>
-    ensures { IfOk result (λ told. IsTrueOf problem.now told.0) }
+    ensures { IfOk result (λ found. IsTrueOf problem.now found.0) }
 {
     let mut learner = Learner::new(alloc, problem, settings)?;
     let end = learner.search(watch)?;
-    let found = told(alloc, problem, &learner, end)?;
+    let found = found_at(alloc, problem, &learner, end)?;
     Ok((found, learner.figures()))
 }

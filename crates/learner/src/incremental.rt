@@ -80,7 +80,7 @@ impl<'a> IncrementalLearner<'a> {
     }
 
     /// Returns what a search that ended so has found.
-    fn told(&mut self, given: &[u16], end: End) -> Result<Found, AllocError>
+    fn found_at(&mut self, given: &[u16], end: End) -> Result<Found, AllocError>
         ensures kept { self.new ≡ self.old }
         ensures found { IfOk result (IsTrueWith self.old given.now) }
     {
@@ -122,6 +122,6 @@ impl<'a> IncrementalLearner<'a> {
         }
         self.learner.begin(given)?;
         let end = self.learner.search(watch)?;
-        self.told(given, end)
+        self.found_at(given, end)
     }
 }

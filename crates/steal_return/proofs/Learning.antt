@@ -5,8 +5,8 @@ use Rattle.std.proofs.lemmas.List.{get_or_past}
 use Rattle.spawn_frame.specs.declared.site.Site.{Site}
 use Rattle.steal_return.specs.Members.{known_after, learnt, now_known, raised}
 use Rattle.steal_return.specs.Steals.{is_older}
-use Rattle.steal_return.specs.declared.told.Told.{Told}
-use Rattle.steal_return.specs.declared.told.Told.TheVariants.{Hello, Members}
+use Rattle.steal_return.specs.declared.news.News.{News}
+use Rattle.steal_return.specs.declared.news.News.TheVariants.{Hello, Members}
 
 max_zero : (n : ℕ) → max n 0 ≡ n
 max_zero n = omega arith
@@ -95,6 +95,6 @@ raised_other (k ∷ ks) (suc node) incarnation zero h = refl
 raised_other (k ∷ ks) (suc node) incarnation (suc other) h = raised_other ks node incarnation other (λ e. h (ap suc e))
 
 -- as many incarnations are known then
-pub after_length : (told : Told) (known : List ℕ) → 0 < length known → length (known_after told known) ≡ length known
+pub after_length : (news : News) (known : List ℕ) → 0 < length known → length (known_after news known) ≡ length known
 after_length (Members self incarnations) known h = known_length self known incarnations.now h
 after_length (Hello site) known h = raised_length known site.node site.incarnation

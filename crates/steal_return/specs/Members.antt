@@ -10,8 +10,8 @@ use Rattle.spawn_frame.specs.declared.unit.Unit.{Unit as WorkUnit}
 use Rattle.spawn_frame.specs.declared.unit.Unit.TheVariants.{Guest, Own}
 use Rattle.steal_return.specs.Ledger.{Ledger}
 use Rattle.steal_return.specs.Steals.{is_older}
-use Rattle.steal_return.specs.declared.told.Told.{Told}
-use Rattle.steal_return.specs.declared.told.Told.TheVariants as tells
+use Rattle.steal_return.specs.declared.news.News.{News}
+use Rattle.steal_return.specs.declared.news.News.TheVariants as says
 
 -- the greater incarnation of each node but the own one
 abbrev pub learnt : ℕ → ℕ → List ℕ → List ℕ → List ℕ
@@ -98,10 +98,10 @@ is_lost_guest known guests (Guest name attempt) = is_older known name.site && ha
 abbrev pub now_known : ℕ → List ℕ → List ℕ → List ℕ
 now_known self known incarnations = slice_index known 0 ∷ learnt self 1 (drop 1 known) incarnations
 
--- what is known once that is told
-abbrev pub known_after : Told → List ℕ → List ℕ
-known_after (tells.Members self incarnations) known = now_known self known incarnations.now
-known_after (tells.Hello site) known = raised known site.node site.incarnation
+-- what is known once this news is heard
+abbrev pub known_after : News → List ℕ → List ℕ
+known_after (says.Members self incarnations) known = now_known self known incarnations.now
+known_after (says.Hello site) known = raised known site.node site.incarnation
 
 -- what makes a difference: another incarnation is known, or a guest is dropped
 abbrev pub Differs : Ledger → List ℕ → List WorkUnit → Type 0

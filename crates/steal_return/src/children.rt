@@ -9,7 +9,7 @@ ghost use Rattle.steal_return.specs.Members.{is_out_to, is_spent_at, known_after
 ghost use Rattle.steal_return.specs.Steals.{first_ready, is_older};
 
 use crate::known::Known;
-use crate::told::Told;
+use crate::news::News;
 use spawn_frame::{LAST_ATTEMPT, Status, Table, Unit};
 
 /// The ready child of least serial. It costs what the table's `next_ready` does.
@@ -33,12 +33,12 @@ fn is_lost(table: &Table, known: &Known, serial: u32) -> bool
     }
 }
 
-/// Whether each child can be redone that has to be once that is told.
-pub fn is_redoable(table: &Table, known: &Known, told: Told<'_>) -> bool
+/// Whether each child can be redone that has to be once this news is heard.
+pub fn is_redoable(table: &Table, known: &Known, news: News<'_>) -> bool
     ensures able { OnTrue result
-        (IsRedoable (is_older (known_after told.entry known.now)) table.now.own) }
+        (IsRedoable (is_older (known_after news.entry known.now)) table.now.own) }
     ensures spent { OnFalse result
-        (IsSpent (is_older (known_after told.entry known.now)) table.now.own) }
+        (IsSpent (is_older (known_after news.entry known.now)) table.now.own) }
 {
     let issued = table.issued();
     let mut from = 0;
@@ -46,7 +46,7 @@ pub fn is_redoable(table: &Table, known: &Known, told: Told<'_>) -> bool
         let Some(serial) = table.next_out(from) else {
             return true;
         };
-        if is_spent(table, known, told, serial) {
+        if is_spent(table, known, news, serial) {
             return false;
         }
         // (each serial is below the limit on names, which is a u32, so the sum fits)
@@ -56,14 +56,14 @@ pub fn is_redoable(table: &Table, known: &Known, told: Told<'_>) -> bool
 }
 
 /// Whether a child would have to be redone then and stands at its last attempt.
-fn is_spent(table: &Table, known: &Known, told: Told<'_>, serial: u32) -> bool
-    ensures { result ≡ is_spent_at (is_older (known_after told.entry known.now))
+fn is_spent(table: &Table, known: &Known, news: News<'_>, serial: u32) -> bool
+    ensures { result ≡ is_spent_at (is_older (known_after news.entry known.now))
         (slice_get table.now.own serial) }
 {
     match table.unit(Unit::Own(serial)) {
         Some(view) => match view.status {
             Status::Out(thief) => {
-                view.attempt == LAST_ATTEMPT && known.will_outrun(told, *thief)
+                view.attempt == LAST_ATTEMPT && known.will_outrun(news, *thief)
             }
             _ => false,
         },

@@ -6,7 +6,7 @@ ghost use Rattle.steal_return.specs.Members.{known_after, now_known, raised};
 ghost use Rattle.steal_return.specs.Steals.{is_older};
 ghost use Rattle.spawn_frame.specs.declared.site.TheConstants.{LAST_NODE};
 
-use crate::told::Told;
+use crate::news::News;
 use spawn_frame::Site;
 use std::alloc::{AllocError, Global};
 use std::marker::Model;
@@ -76,14 +76,14 @@ impl Known {
         }
     }
 
-    /// Whether a later incarnation of the site's node is known once that is told.
-    pub fn will_outrun(&self, told: Told<'_>, site: Site) -> bool
-        ensures { result ≡ is_older (known_after told.entry self.now) site }
+    /// Whether a later incarnation of the site's node is known once this news is heard.
+    pub fn will_outrun(&self, news: News<'_>, site: Site) -> bool
+        ensures { result ≡ is_older (known_after news.entry self.now) site }
     {
         let known = self.as_slice();
         let node = site.node as usize;
         // (one entry, not the whole new list: this has to be answered where memory was refused, too)
-        node < known.len() && site.incarnation < incarnation_after(known, told, node)
+        node < known.len() && site.incarnation < incarnation_after(known, news, node)
     }
 
     /// What is known once a site of the node `own` learns the incarnations of nodes 1, 2, ..; the only error is out of
@@ -108,14 +108,14 @@ impl Known {
     }
 }
 
-/// The incarnation of a node that is known once that is told.
-fn incarnation_after(known: &[u32], told: Told<'_>, node: usize) -> u32
+/// The incarnation of a node that is known once this news is heard.
+fn incarnation_after(known: &[u32], news: News<'_>, node: usize) -> u32
     requires { node < length known.now }
-    ensures { result ≡ slice_index (known_after told.entry known.now) node }
+    ensures { result ≡ slice_index (known_after news.entry known.now) node }
 {
-    match told {
-        Told::Members(own, incarnations) => later_incarnation(known, own, incarnations, node),
-        Told::Hello(from) => {
+    match news {
+        News::Members(own, incarnations) => later_incarnation(known, own, incarnations, node),
+        News::Hello(from) => {
             if node == from.node as usize {
                 later_of(known[node], from.incarnation)
             } else {

@@ -11,13 +11,13 @@ mod laws;
 mod learn_fault;
 mod ledger;
 mod membership;
+mod news;
 mod redo_fault;
 mod redos;
 mod return_reply;
 mod returns;
 mod sharing;
 mod steals;
-mod told;
 
 pub use given::Given;
 pub use judged::Judged;

@@ -12,7 +12,7 @@ use crate::guests::{drop_guests, lost_guests};
 use crate::known::Known;
 use crate::learn_fault::LearnFault;
 use crate::ledger::Ledger;
-use crate::told::Told;
+use crate::news::News;
 use abort_tree::{Descendants, Out, parents_decide};
 use spawn_frame::{Site, Unit};
 
@@ -26,8 +26,8 @@ impl Ledger {
         ensures spent { OnFalse result (IsSpent (is_older
             (now_known self.now.site.node self.now.known incarnations.now)) self.now.own) }
     {
-        let told = Told::Members(self.table.site().node, incarnations);
-        is_redoable(&self.table, &self.known, told)
+        let news = News::Members(self.table.site().node, incarnations);
+        is_redoable(&self.table, &self.known, news)
     }
 
     /// Learns the incarnations of nodes 1, 2, ..: of each other node the greater one is kept; what is told beyond the
@@ -55,7 +55,7 @@ impl Ledger {
         ensures list { OnErr result (list.new.items ≡ list.old.items) }
     {
         let own = self.table.site().node;
-        if !is_redoable(&self.table, &self.known, Told::Members(own, incarnations)) {
+        if !is_redoable(&self.table, &self.known, News::Members(own, incarnations)) {
             return Err(LearnFault::NamesSpent);
         }
         let known = self.known.learnt(own, incarnations)?;
@@ -83,7 +83,7 @@ impl Ledger {
             (raised self.now.known from.node from.incarnation)) self.now.own) }
         ensures spent { OnFalse result (IsSpentForHello self.now from) }
     {
-        is_redoable(&self.table, &self.known, Told::Hello(from))
+        is_redoable(&self.table, &self.known, News::Hello(from))
     }
 
     /// Learns that a node is in this incarnation: the later incarnation of it is kept, and each child that is out to an
@@ -96,7 +96,7 @@ impl Ledger {
         ensures no_other { OnErr result (IsErrOf result LearnFault.NamesSpent) }
         ensures err { OnErr result (self.new ≡ self.old) }
     {
-        if !is_redoable(&self.table, &self.known, Told::Hello(from)) {
+        if !is_redoable(&self.table, &self.known, News::Hello(from)) {
             return Err(LearnFault::NamesSpent);
         }
         // (before the redos, which go by what is known now: a greeting that comes late redoes nothing)

@@ -6,7 +6,7 @@ use Rattle.steal_return.specs.Steals.{is_older}
 abbrev pub invariant-loop-from : goal.invariant-loop-from
 invariant-loop-from l = record {
   within : l.from ≤ length l.table.own;
-  none : (k : ℕ) → k < l.from → is_spent_at (is_older (known_after l.told l.known)) (slice_get l.table.own k) ≡ false;
+  none : (k : ℕ) → k < l.from → is_spent_at (is_older (known_after l.news l.known)) (slice_get l.table.own k) ≡ false;
 }
 
 abbrev pub decreases-loop-from : goal.decreases-loop-from

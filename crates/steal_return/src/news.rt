@@ -4,9 +4,9 @@
 
 use spawn_frame::Site;
 
-/// What a site is told of the incarnations of nodes.
+/// What a site hears of the incarnations of nodes.
 #[derive(Clone, Copy)]
-pub enum Told<'a> {
+pub enum News<'a> {
     /// At a site of this node, the incarnations of nodes 1, 2, ..: of each node but its own the later one is kept.
     Members(u8, &'a [u32]),
     /// A node is in this incarnation: the later incarnation of it is kept.
