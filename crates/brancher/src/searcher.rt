@@ -187,7 +187,7 @@ impl<'a> Searcher<'a> {
         Finding::from_parts(prefix, fuel, outcome, cover)
     }
 
-    /// Searches as `find` does until the watch stops it; none where it did. With the finding it returns how many visits were made: all
+    /// Searches as `find` does until the watch stops it; none where it did. With the finding it returns how many visits it counted: all
     /// those of a prefix without a cover, else the fuel. It takes the room for a cover first: if memory runs out, nothing is searched,
     /// and the prefix comes back.
     pub fn find_until<W: Watch>(

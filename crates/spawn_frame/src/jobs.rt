@@ -51,7 +51,8 @@ impl Table {
         Job { unit, attempt }
     }
 
-    /// Takes up the ready unit that is taken up next, if there is one. It costs what `ready` and `take_up` do.
+    /// Takes up the ready unit that is taken up next, if there is one. It is `ready` and `take_up` in one, and costs what they do; cores call these
+    /// two, and take memory between them.
     pub fn take(&mut self) -> Option<Job>
         ensures unit { option_map (λ job. job.unit) result ≡ ready_unit self.old }
         ensures ready { IfSome result (λ job.

@@ -25,5 +25,5 @@ pub struct ChildName {
     pub serial: u32,
 }
 
-/// How often a child was redone: from 1, and one more for each redo.
+/// By which attempt a child is done: 1 at first, and one more at each redo.
 pub type Attempt = u32;

@@ -126,7 +126,7 @@ impl Table {
     }
 
     /// The least guest, or the least behind the given one, in the order of guests. It is found by halving.
-    /// So all guests can be walked through without a list of them.
+    /// So all guests can be walked through without a list of them, as tests do.
     pub fn next_guest(&self, after: Option<(ChildName, Attempt)>) -> Option<(ChildName, Attempt)>
         ensures next { result ≡ option_map guest_key (find (is_after after) self.now.guests) }
         ensures ascending { IsAscending self.now.guests }

@@ -21,7 +21,7 @@ use crate::wanted::Wanted;
 pub struct Work {
     /// The options that are chosen, for proofs alone.
     pub path: GhostPrefix,
-    /// How often it was given out, from 1.
+    /// The attempt at which its result counts: 1 at first, and one more at each redo.
     pub attempt: Attempt,
     /// How far it is.
     pub status: Status,

@@ -128,7 +128,7 @@ impl Ledger {
         self.table.take_up(unit)
     }
 
-    /// Takes up the ready unit that is taken up next, as `Table::take` does.
+    /// Takes up the ready unit that is taken up next, as `Table::take` does. The cores call `ready` and `take_up`.
     pub fn take(&mut self) -> Option<Job>
         ensures unit { option_map (λ job. job.unit) result ≡ ready_unit self.old.table }
         ensures ready { IfSome result (λ job.

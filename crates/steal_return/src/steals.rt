@@ -146,6 +146,8 @@ impl Ledger {
 
     /// Gives a thief its share of the ready own children, if one is ready and no later incarnation of the thief's node
     /// is known: those of `ready_share`, which are out then. The only error is out of memory, which changes nothing.
+    ///
+    /// The cores call its parts, and write the packet between them.
     pub fn give(&mut self, thief: Site) -> Result<Option<Given>, AllocError>
         ensures gives { IfOk result (λ answer. TellsSteal self.old thief answer self.new) }
         ensures chosen { IfOk result (λ answer. IfSome answer (λ given.
