@@ -17,6 +17,7 @@ use run_settings::Settings;
 use search_engines::{EngineFault, write_published};
 use std::alloc::Global;
 use std::marker::Brand;
+use std::mem;
 use std::sync::Wait;
 use std::thread::Threads;
 use std::time::{Clock, Duration};
@@ -170,6 +171,8 @@ fn write_run<
 {
     let problem = task.problem;
     let end: SolveEnd<J> = solve_within(rt, alloc, task, links, hooks)?;
+    // (nobody reads them, and the process ends soon: given back one by one, their many small pieces would draw out its end)
+    mem::forget(end.books);
     write_published(problem, end.answer.as_ref(), sink)
 }
 
@@ -211,7 +214,7 @@ fn write_audited_run<
 /// is 6.
 ///
 /// The faults are `Write`, where the sink failed, and `Memory`. After `Write` a beginning of the text was written, after `Memory`
-/// nothing.
+/// nothing. Books that aren't audited take their memory until the process ends.
 pub fn solve_problem<
     L: Link + Send,
     H: Gate + Follower + Sync,

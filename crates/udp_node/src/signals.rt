@@ -47,7 +47,7 @@ pub struct Signals {
     stopped: AtomicBool,
     /// Where the thread that sends waits.
     sender: Parker,
-    /// Where each worker waits that leaves all jobs to another.
+    /// Where each worker waits that leaves all jobs to another, or found nothing to do.
     spared: [Parker; WORKERS],
 }
 
@@ -191,8 +191,13 @@ impl Signals {
 
     /// Waits, in a worker that leaves all jobs to another, until it is roused: there is work for it again, or the site is to end.
     pub fn spare<R: Wait>(&self, rt: &R, worker: u8) {
+        self.idle(rt, worker, Duration::from_secs(DOZE));
+    }
+
+    /// Waits so long, in a worker that found nothing to do, or until it is roused: at the end of the site none is waited for.
+    pub fn idle<R: Wait>(&self, rt: &R, worker: u8, nap: Duration) {
         if let Some(parker) = self.spared.get(usize::from(worker)) {
-            parker.park_timeout(rt, Duration::from_secs(DOZE));
+            parker.park_timeout(rt, nap);
         }
     }
 

@@ -23,9 +23,9 @@ use site_limits::{EndCause, Follower, Gate, Limits, Pace, Plan, SearchWatch, Tur
 use spawn_frame::Job;
 use std::alloc::AllocError;
 use std::marker::PhantomData;
+use std::mem;
 use std::sync::Wait;
 use std::time::Clock;
-use std::{mem, thread};
 
 /// A prefix without a cover is worth telling of if a search of it takes so many visits: each other worker copies it
 /// into its own table. Chosen, not measured.
@@ -172,7 +172,7 @@ impl<'r, 't, 's, J: Run, C: Core + Drop, N: CellName, H: Gate + Follower, R: Wai
                 after(self.actor.act(self.rt, Event::Ask(victim)))
             }
             IdleTurn::Waits(nap) => {
-                thread::sleep(self.rt, nap);
+                self.actor.shared.signals.idle(self.rt, self.number, nap);
                 Turn::Waited
             }
             IdleTurn::Passes => Turn::Waited,

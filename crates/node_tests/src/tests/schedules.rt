@@ -3,8 +3,9 @@
 //! Of the bugs of `udp_node` that are kept outside the gate, `schedules` finds `greets_at_each_look`, `each_run_ends_after_half_a_day` and
 //! `says_again_as_often`, `time_that_a_process_was_held_up` finds `all_time_counts`, `idle_turns` finds
 //! `naps_of_20_microseconds`, `savings` finds `single_searches_show_savings`, `a_spared_worker_is_roused` finds
-//! `spared_workers_are_not_roused`, and `rooms` finds `each_worker_has_all_room`. Of the bugs of `site_limits` that are kept outside the gate,
-//! `a_run_ends_by_its_limit_or_by_a_site` finds `without_a_clock_there_is_no_limit`.
+//! `spared_workers_are_not_roused`, `an_idle_worker_is_roused_at_the_end` finds `nobody_is_roused_at_the_end`, and `rooms` finds
+//! `each_worker_has_all_room`. Of the bugs of `site_limits` that are kept outside the gate, `a_run_ends_by_its_limit_or_by_a_site` finds
+//! `without_a_clock_there_is_no_limit`.
 
 use self::Step::{Announces, Ends, Greets, Hears, IsSilent, IsSpent, Repeats};
 use site_limits::Ending;
@@ -294,6 +295,17 @@ fn a_spared_worker_is_roused(rt: HostRuntime) -> Result<(), Fail> {
     assert!(rt; !signals.is_spared(1));
     let begun = Instant::now(&rt)?;
     signals.spare(&rt, 1);
+    assert!(rt; begun.elapsed(&rt)? < Duration::from_secs(30));
+    Ok(())
+}
+
+/// A worker that found nothing to do doesn't wait on once its site is to end.
+#[test]
+fn an_idle_worker_is_roused_at_the_end(rt: HostRuntime) -> Result<(), Fail> {
+    let signals = Signals::new(2, true);
+    signals.stop();
+    let begun = Instant::now(&rt)?;
+    signals.idle(&rt, 1, Duration::from_secs(40));
     assert!(rt; begun.elapsed(&rt)? < Duration::from_secs(30));
     Ok(())
 }
