@@ -1,23 +1,29 @@
 -- Once an option is chosen, options that clash with it can be copies of it: the problem keeps its rules, and the exact covers that have the option.
-use Rattle.std.proofs.Common.{◌≡◌, ℕ, ◌+◌, ◌<◌, Bool, true, ◌&&◌, ◌||◌, List, [], ◌∷◌, length, map, get_or, count_by, Option, Some, None, refl, sym, ap, ◌∙◌, inl, inr, arith}
-use Rattle.std.specs.List.{list_all, range_with_len, sum_by}
+use Rattle.std.proofs.Common.{◌≡◌, ℕ, zero, suc, ◌+◌, ◌<◌, ◌≤◌, Bool, true, ◌&&◌, ◌||◌, List, [], ◌∷◌, length, map, get_or, count_by, Option, Some, None, refl, sym, ap, ◌∙◌, subst, inl, inr, arith}
+use Rattle.std.specs.List.{All, list_all, range_with_len, sum_by}
 use Rattle.std.proofs.lemmas.Bool.{and_from, and_parts, cases_Bool, cases_eq, cases_lt, leb-true, ltb-true, ne_eqb}
 use Rattle.std.proofs.lemmas.List.{get_or_past}
+use Rattle.std.proofs.lemmas.List.Elements.{All-cons, All-map, All-nil}
 use Rattle.std.proofs.lemmas.List.FromFn.{get_or-map-range_with_len, length-map-range_with_len}
+use Rattle.std.proofs.lemmas.Simd.{map-map}
 use Rattle.cover_problem.specs.ExactCover.{IsExactCover, uses}
 use Rattle.cover_problem.specs.Numbers.{is_in, is_distinct, are_below, some_below}
-use Rattle.cover_problem.specs.Prefix.{IsCoverOver, clash}
-use Rattle.cover_problem.specs.Problem.{Problem, IsProblem, items_of, colours_of, colour_beside, names_item, colour_of, option_numbers}
+use Rattle.cover_problem.specs.Prefix.{AreOptions, IsCoverOver, clash}
+use Rattle.cover_problem.specs.Problem.{Problem, IsProblem, problem_by, items_of, colours_of, colour_beside, names_item, colour_of, option_numbers}
 use Rattle.cover_problem.specs.Search.{first}
 use Rattle.cover_problem.proofs.Apart.{chosen_apart}
 use Rattle.cover_problem.proofs.Colours.{colours_long, colours_below}
 use Rattle.cover_problem.proofs.Sets.{count_same, count_some, in_filtered}
-use Rattle.clash_cliques.proofs.Behind.{as_long}
+use Rattle.problem_copies.proofs.Growing.{as_long}
 use Rattle.cover_reasons.specs.Reasons.{holds_of}
 use Rattle.cover_reasons.specs.declared.reason.Reason.{Reason}
 use Rattle.case_reasons.specs.Cases.{AreCases, after_choice, colours_after, has_room_after, is_case, items_after, options_with, stand_in}
 use Rattle.case_reasons.specs.declared.case.Case.{Case}
 use Rattle.case_reasons.specs.declared.case.Cases.{Cases}
+
+-- an option stands for an option
+stands_low : (p : Problem) (c k : ℕ) → c < length p.options → k < length p.options → stand_in p c k < length p.options
+stands_low p c k inside low = elim (cases_Bool (clash p c k)) [ inl e ↦ rw e inside | inr e ↦ rw e low ]
 
 module _ (p : Problem) (c : ℕ) (lawful : IsProblem p) where
   abbrev made : Problem
@@ -85,9 +91,6 @@ module _ (p : Problem) (c : ℕ) (lawful : IsProblem p) where
   -- ---- its rules
 
   module _ (inside : c < length p.options) (roomy : has_room_after p c ≡ true) where
-    stands_low : (k : ℕ) → k < length p.options → stand_in p c k < length p.options
-    stands_low k low = elim (cases_Bool (clash p c k)) [ inl e ↦ rw e inside | inr e ↦ rw e low ]
-
     uncoloured : (k i : ℕ) → i < p.primary → colour_of made k i ≡ 0
     uncoloured k i first = elim (cases_lt k (length p.options)) [
       | inr high ↦ ap (λ xs. colour_beside xs (colours_of made k) i) (get_or_past made.options k [] (omega (arith, high, options_long)))
@@ -108,22 +111,44 @@ module _ (p : Problem) (c : ℕ) (lawful : IsProblem p) where
       distinct_names = lawful.distinct_names;
       each_primary = λ k d low.
           let here : k < length p.options = omega (arith, low, options_long) in
-          ap (some_below p.primary) (option_made k d here) ∙ lawful.each_primary (stand_in p c k) [] (stands_low k here);
+          ap (some_below p.primary) (option_made k d here) ∙ lawful.each_primary (stand_in p c k) [] (stands_low p c k inside here);
       each_named = λ k d low.
           let here : k < length p.options = omega (arith, low, options_long) in
-          ap (are_below (length p.names)) (option_made k d here) ∙ lawful.each_named (stand_in p c k) [] (stands_low k here);
+          ap (are_below (length p.names)) (option_made k d here) ∙ lawful.each_named (stand_in p c k) [] (stands_low p c k inside here);
       each_distinct = λ k d low.
           let here : k < length p.options = omega (arith, low, options_long) in
-          ap is_distinct (option_made k d here) ∙ lawful.each_distinct (stand_in p c k) [] (stands_low k here);
+          ap is_distinct (option_made k d here) ∙ lawful.each_distinct (stand_in p c k) [] (stands_low p c k inside here);
       each_coloured = as_long (colours_after p c) (items_after p c) (option_numbers p) (λ k. colours_long p (stand_in p c k) lawful);
       each_colour = λ k d low.
           let here : k < length p.options = omega (arith, low, colouring_long) in
-          ap (are_below (length p.colour_names + 1)) (colouring_made k d here) ∙ colours_below p (stand_in p c k) lawful (stands_low k here);
+          ap (are_below (length p.colour_names + 1)) (colouring_made k d here) ∙ colours_below p (stand_in p c k) lawful (stands_low p c k inside here);
       plain_primary = uncoloured;
       colour_names = lawful.colour_names;
       each_colour_name = lawful.each_colour_name;
       distinct_colour_names = lawful.distinct_colour_names;
     }
+
+-- ---- the options that stand for others
+
+pub stand_ins_are_options : (p : Problem) (c : ℕ) → c < length p.options → AreOptions p (map (stand_in p c) (option_numbers p))
+stand_ins_are_options p c inside = All-map (λ o. o < length p.options) (stand_in p c) (option_numbers p) (each 0 (length p.options) (omega arith))
+  where
+    each : (start count : ℕ) → start + count ≤ length p.options → All (λ k. stand_in p c k < length p.options) (range_with_len start count)
+    each start zero low = All-nil (λ k. stand_in p c k < length p.options)
+    each start (suc count) low = All-cons (λ k. stand_in p c k < length p.options) start (range_with_len (start + 1) count) (stands_low p c start inside (omega (arith, low))) (each (start + 1) count (omega (arith, low)))
+
+pub items_stand : (p : Problem) (c : ℕ) (list : List ℕ) → list ≡ map (stand_in p c) (option_numbers p) → map (items_of p) list ≡ map (items_after p c) (option_numbers p)
+items_stand p c list is = ap (map (items_of p)) is ∙ map-map (items_of p) (stand_in p c) (option_numbers p)
+
+pub colours_stand : (p : Problem) (c : ℕ) (list : List ℕ) → list ≡ map (stand_in p c) (option_numbers p) → map (colours_of p) list ≡ map (colours_after p c) (option_numbers p)
+colours_stand p c list is = ap (map (colours_of p)) is ∙ map-map (colours_of p) (stand_in p c) (option_numbers p)
+
+-- the problem of copies of the options that stand for others
+pub made_problem : (p : Problem) (c : ℕ) (list : List ℕ) (names : List (List ℕ)) (primary : ℕ) (options colours colour_names : List (List ℕ)) → IsProblem (after_choice p c) → list ≡ map (stand_in p c) (option_numbers p) → names ≡ p.names → primary ≡ p.primary → options ≡ map (items_of p) list → colours ≡ map (colours_of p) list → colour_names ≡ p.colour_names → IsProblem (problem_by names primary options colours colour_names)
+made_problem p c list names primary options colours colour_names lawful is named first itemed coloured called =
+    let items : options ≡ map (items_after p c) (option_numbers p) = itemed ∙ items_stand p c list is in
+    let own : colours ≡ map (colours_after p c) (option_numbers p) = coloured ∙ colours_stand p c list is in
+    subst IsProblem (sym (ap (λ xs. problem_by xs primary options colours colour_names) named ∙ ap (λ n. problem_by p.names n options colours colour_names) first ∙ ap (λ xs. problem_by p.names p.primary xs colours colour_names) items ∙ ap (λ xs. problem_by p.names p.primary (map (items_after p c) (option_numbers p)) xs colour_names) own ∙ ap (λ xs. problem_by p.names p.primary (map (items_after p c) (option_numbers p)) (map (colours_after p c) (option_numbers p)) xs) called)) lawful
 
 -- ---- cases
 

@@ -1,8 +1,8 @@
--- Cases of the options so far, and of one more.
-use Rattle.std.proofs.Common.{◌≡◌, ℕ, ◌+◌, Bool, true, false, ◌&&◌, cond, List, [], ◌∷◌, ◌++◌, map, filter, refl, sym, ap, ◌∙◌, arith}
+-- Cases of the options so far, and of one more; copies of some options, and of one more.
+use Rattle.std.proofs.Common.{◌≡◌, ℕ, ◌+◌, ◌<◌, Bool, true, false, ◌&&◌, cond, List, [], ◌∷◌, ◌++◌, map, filter, get_or, length, take, refl, sym, ap, ◌∙◌, arith}
 use Rattle.std.specs.List.{list_all, range_with_len}
 use Rattle.std.proofs.lemmas.Bool.{and_from}
-use Rattle.std.proofs.lemmas.List.{map_push}
+use Rattle.std.proofs.lemmas.List.{map_push, take_more}
 use Rattle.std.proofs.lemmas.List.Folds.{list_all-append}
 use Rattle.std.proofs.lemmas.List.FromFn.{filter_of_map_range_with_len_more}
 use Rattle.cover_problem.specs.Problem.{Problem, names_item}
@@ -36,3 +36,9 @@ each_same p item now new k was unnamed same =
 pub hold_more : (p : Problem) (now new : List Case) (case : Case) → list_all (is_case p) now ≡ true → new ≡ now ++ case ∷ [] → is_case p case ≡ true → list_all (is_case p) new ≡ true
 hold_more p now new case was is holds =
     ap (list_all (is_case p)) is ∙ list_all-append (is_case p) now (case ∷ []) ∙ and_from (list_all (is_case p) now) (is_case p case && true) was (and_from (is_case p case) true holds refl)
+
+-- by what a function says of the next element of another list
+pub one_more_mapped : {X Y : Type 0} (f : X → Y) (xs : List X) (now new : List Y) (k : ℕ) (d : X) (y : Y) → k < length xs → now ≡ map f (take k xs) → new ≡ now ++ y ∷ [] → y ≡ f (get_or xs k d) → new ≡ map f (take (k + 1) xs)
+one_more_mapped f xs now new k d y inside was is next =
+    is ∙ ap (λ ys. ys ++ y ∷ []) was ∙ ap (λ z. map f (take k xs) ++ z ∷ []) next
+    ∙ sym (ap (map f) (take_more xs k d inside) ∙ map_push f (take k xs) (get_or xs k d))

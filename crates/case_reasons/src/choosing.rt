@@ -2,12 +2,13 @@
 
 ghost use Rattle.std.specs.Prelude.{◌≡◌, ◌<◌, length, map, nat_le, true, IfOk, IfSome};
 ghost use Rattle.std.specs.List.{sum_by};
-ghost use Rattle.cover_problem.specs.Problem.{option_numbers};
-ghost use Rattle.case_reasons.specs.Cases.{stand_in, items_after, colours_after, after_choice, has_room_after};
+ghost use Rattle.cover_problem.specs.Prefix.{AreOptions};
+ghost use Rattle.cover_problem.specs.Problem.{option_numbers, items_of, colours_of};
+ghost use Rattle.case_reasons.specs.Cases.{stand_in, after_choice, has_room_after};
 
 use crate::laws::a_choice_keeps_its_covers;
-use clash_cliques::{colour_names_of, names_of};
 use cover_problem::{MOST_NODES, Numbers, Problem, clash};
+use problem_copies::{colour_names_of, names_of, numbers_by};
 use std::alloc::{AllocError, Global};
 
 /// The option that stands for another one once an option is chosen: the chosen one, if they clash.
@@ -24,41 +25,53 @@ fn stand_in(problem: &Problem, chosen: u16, option: u16) -> u16
     }
 }
 
-/// A list of these numbers; the only error is out of memory.
-fn numbers_by(alloc: Global, numbers: &[u16]) -> Result<Numbers, AllocError>
-    ensures { IfOk result (λ copied. copied ≡ numbers.now) }
+/// Of each option the one that stands for it. The only error is out of memory.
+#[tactic(auto, using(crate::proofs::Choices::stand_ins_are_options))]
+fn stand_ins(alloc: Global, problem: &Problem, chosen: u16) -> Result<Vec<u16>, AllocError>
+    requires { chosen < length problem.now.options }
+    ensures stand { IfOk result (λ list. list.items
+        ≡ map (stand_in problem.now chosen) (option_numbers problem.now)) }
+    ensures options { IfOk result (λ list. AreOptions problem.now list.items) }
 {
-    Ok(Numbers::from_vec(Vec::from_slice(alloc, numbers)?))
+    (0..problem.options() as u16)
+        .map(|option| stand_in(problem, chosen, option))
+        .collect(alloc)
 }
 
-/// Of each option the items of the one that stands for it.
-#[tactic(auto, using(clash_cliques::proofs::Behind::one_more))]
-fn options_after(alloc: Global, problem: &Problem, chosen: u16) -> Result<Vec<Numbers>, AllocError>
-    requires { chosen < length problem.now.options }
-    ensures { IfOk result (λ options. options.items
-        ≡ map (items_after problem.now chosen) (option_numbers problem.now)) }
+/// Of each of these options a copy of its items.
+#[tactic(auto, using(crate::proofs::Growing::one_more_mapped))]
+fn items_of_each(
+    alloc: Global,
+    problem: &Problem,
+    options: &[u16],
+) -> Result<Vec<Numbers>, AllocError>
+    requires { AreOptions problem.now options.now }
+    ensures { IfOk result (λ lists. lists.items ≡ map (items_of problem.now) options.now) }
 {
-    let mut options = Vec::with_capacity(alloc, problem.options())?;
-    for option in 0..problem.options() as u16 {
-        let items = numbers_by(alloc, problem.option(stand_in(problem, chosen, option)))?;
-        options.push(items)?;
+    let mut lists = Vec::with_capacity(alloc, options.len())?;
+    for option in options {
+        let items = numbers_by(alloc, problem.option(*option))?;
+        lists.push(items)?;
     }
-    Ok(options)
+    Ok(lists)
 }
 
-/// Of each option the colours of the one that stands for it.
-#[tactic(auto, using(clash_cliques::proofs::Behind::one_more))]
-fn colours_after(alloc: Global, problem: &Problem, chosen: u16) -> Result<Vec<Numbers>, AllocError>
-    requires { chosen < length problem.now.options }
-    ensures { IfOk result (λ colours. colours.items
-        ≡ map (colours_after problem.now chosen) (option_numbers problem.now)) }
+/// Of each of these options a copy of its colours.
+#[tactic(auto, using(crate::proofs::Growing::one_more_mapped))]
+fn colours_of_each(
+    alloc: Global,
+    problem: &Problem,
+    options: &[u16],
+) -> Result<Vec<Numbers>, AllocError>
+    requires { AreOptions problem.now options.now }
+    ensures { IfOk result (λ lists. lists.items ≡ map (colours_of problem.now) options.now) }
 {
-    let mut colours = Vec::with_capacity(alloc, problem.options())?;
-    for option in 0..problem.options() as u16 {
-        let own = numbers_by(alloc, problem.colours(stand_in(problem, chosen, option)))?;
-        colours.push(own)?;
+    let mut lists = Vec::with_capacity(alloc, options.len())?;
+    for option in options {
+        let colours = numbers_by(alloc, problem.colours(*option))?;
+        lists.push(colours)?;
     }
-    Ok(colours)
+    Ok(lists)
 }
 
 /// Whether the options name no more items, together, than those of a problem may.
@@ -78,6 +91,7 @@ fn keeps_limit(options: &[Numbers]) -> bool
 
 /// The problem once the option is chosen: each option that clashes with it is a copy of it. None where all options together would have more
 /// items than those of a problem may have. The only error is out of memory.
+#[tactic(auto, using(crate::proofs::Choices::items_stand, crate::proofs::Choices::colours_stand))]
 pub fn after_choice(
     alloc: Global,
     problem: &Problem,
@@ -89,11 +103,12 @@ pub fn after_choice(
 {
     a_choice_keeps_its_covers();
     problem.recall_rules();
-    let options = options_after(alloc, problem, chosen)?;
+    let stand_ins = stand_ins(alloc, problem, chosen)?;
+    let options = items_of_each(alloc, problem, &stand_ins)?;
     if !keeps_limit(&options) {
         return Ok(None);
     }
-    let colours = colours_after(alloc, problem, chosen)?;
+    let colours = colours_of_each(alloc, problem, &stand_ins)?;
     let names = names_of(alloc, problem)?;
     let colour_names = colour_names_of(alloc, problem)?;
     Ok(Some(Problem::from_parts(names, problem.primary(), options, colours, colour_names)))

@@ -33,20 +33,46 @@ fn case_of<W: ReasonWatch>(
     }
 }
 
-/// A case for each option that names the item, in file order; none once one of them has none.
+/// The known case, which is taken, if it is one of this option, and else a case that is looked for.
+fn known_or_case_of<W: ReasonWatch>(
+    alloc: Global,
+    problem: &Problem,
+    option: u16,
+    known: &mut Option<Case>,
+    watch: &mut W,
+) -> Result<Option<Case>, AllocError>
+    requires inside { option < length problem.now.options }
+    requires known { IfSome known.old (λ case. is_case problem.now case ≡ true) }
+    ensures case { IfOk result (λ found. IfSome found (λ case. is_case problem.now case ≡ true)) }
+    ensures option { IfOk result (λ found. IfSome found (λ case. case.option ≡ option)) }
+    ensures known { IfOk result (λ found. IfSome known.new (λ case. is_case problem.now case ≡ true)) }
+{
+    match known.take() {
+        Some(case) if case.option == option => Ok(Some(case)),
+        other => {
+            *known = other;
+            case_of(alloc, problem, option, watch)
+        }
+    }
+}
+
+/// A case for each option that names the item, in file order, of which one is known; none once an option has none.
 fn cases_of<W: ReasonWatch>(
     alloc: Global,
     problem: &Problem,
     item: u16,
+    one: Case,
     watch: &mut W,
 ) -> Result<Option<Cases>, AllocError>
-    requires { item < problem.now.primary }
+    requires item { item < problem.now.primary }
+    requires one { is_case problem.now one ≡ true }
     ensures { IfOk result (λ found. IfSome found (AreCases problem.now)) }
 {
+    let mut known = Some(one);
     let mut list = Vec::new(alloc);
     for option in 0..problem.options() as u16 {
         if option_names(problem, option, item) {
-            match case_of(alloc, problem, option, watch)? {
+            match known_or_case_of(alloc, problem, option, &mut known, watch)? {
                 Some(case) => list.push(case)?,
                 None => return Ok(None),
             }
@@ -55,18 +81,20 @@ fn cases_of<W: ReasonWatch>(
     Ok(Some(Cases { item, list }))
 }
 
-/// Whether the shortest option of the item, which excludes least, has a case: else the others needn't be tried.
-fn is_promising<W: ReasonWatch>(
+/// A case of the shortest option of the item, which excludes least: where it has none, the others needn't be tried.
+fn case_of_shortest<W: ReasonWatch>(
     alloc: Global,
     problem: &Problem,
     item: u16,
     watch: &mut W,
-) -> Result<bool, AllocError> {
+) -> Result<Option<Case>, AllocError>
+    ensures { IfOk result (λ found. IfSome found (λ case. is_case problem.now case ≡ true)) }
+{
     match shortest_of(problem, item) {
         Some(option) if (option as usize) < problem.options() => {
-            Ok(case_of(alloc, problem, option, watch)?.is_some())
+            case_of(alloc, problem, option, watch)
         }
-        _ => Ok(false),
+        _ => Ok(None),
     }
 }
 
@@ -79,18 +107,19 @@ fn cases_tried<W: ReasonWatch>(
 ) -> Result<Option<Cases>, AllocError>
     ensures { IfOk result (λ found. IfSome found (AreCases problem.now)) }
 {
-    let is_primary = (item as usize) < problem.primary();
-    if is_primary && is_promising(alloc, problem, item, watch)? {
-        cases_of(alloc, problem, item, watch)
-    } else {
-        Ok(None)
+    if (item as usize) >= problem.primary() {
+        return Ok(None);
+    }
+    match case_of_shortest(alloc, problem, item, watch)? {
+        Some(case) => cases_of(alloc, problem, item, case, watch),
+        None => Ok(None),
     }
 }
 
 /// The cases of an item, if a few that are tried have one all of whose options have a case, and the watch doesn't end that before. Then there is no
 /// exact cover.
 ///
-/// Where none is found there may be a cover or none. A reason is looked for with one option of each item that is tried, and with each option where that
+/// Where none is found there may be a cover or none. A reason is looked for with one option of each item that is tried, and with its others where that
 /// one has a reason. The only error is out of memory.
 pub fn find_cases_until<W: ReasonWatch>(
     alloc: Global,

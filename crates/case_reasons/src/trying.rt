@@ -5,6 +5,7 @@
 //! reaches such pieces last.
 
 use cover_problem::Problem;
+use problem_copies::nodes_of;
 use std::alloc::{AllocError, Global};
 
 /// How many items are tried at most. Each of them costs a search for a reason, with its shortest option, also where there are no cases. On boards with
@@ -13,7 +14,7 @@ const MOST_ITEMS_TRIED: usize = 4;
 
 /// How many nodes (items of options, all together) the problem may have for one item to be tried; half as many for two, and so on. In larger
 /// problems, such as quasigroups of 30 and full timetables of a school, one search for a reason takes seconds, and none had cases. It doesn't bound what
-/// follows once an item is promising: a reason is looked for with each of its options.
+/// follows once an item is promising: a reason is looked for with each of its other options.
 const MOST_NODES_TRIED: usize = 20_000;
 
 /// The options of an item.
@@ -46,15 +47,6 @@ fn prospects(alloc: Global, problem: &Problem) -> Result<Vec<Prospect>, AllocErr
         note(&mut prospects, problem.option(option));
     }
     Ok(prospects)
-}
-
-/// How many items all options name.
-fn nodes_of(problem: &Problem) -> usize {
-    let mut nodes: usize = 0;
-    for option in 0..problem.options() as u16 {
-        nodes = nodes.saturating_add(problem.option(option).len());
-    }
-    nodes
 }
 
 /// The items that are tried, the most promising first. The only error is out of memory.

@@ -1,11 +1,10 @@
 -- Lists with one more element behind them.
-use Rattle.std.proofs.Common.{◌≡◌, ℕ, zero, suc, ◌+◌, ◌<◌, ◌≤◌, Bool, true, false, not, ◌==◌, nat_eq, List, [], ◌∷◌, ◌++◌, length, map, get_or, take, refl, sym, ap, ◌∙◌, inl, inr, arith}
+use Rattle.std.proofs.Common.{◌≡◌, ℕ, zero, suc, ◌+◌, ◌<◌, ◌≤◌, Bool, true, false, not, ◌==◌, nat_eq, List, [], ◌∷◌, ◌++◌, length, map, get_or, refl, sym, ap, ◌∙◌, inl, inr, arith}
 use Rattle.std.specs.Cmp.Lexicographic.{pointwise}
-use Rattle.std.specs.List.{list_all, list_any, range_with_len, sum_by}
+use Rattle.std.specs.List.{list_all, list_any, sum_by}
 use Rattle.std.proofs.lemmas.Bool.{and_parts, and_from, cases_lt, eq-eqb, ne_eqb, not-true, not_from_false, or_cases, or_from, or_left, or_parts, or_right}
 use Rattle.std.proofs.lemmas.Cmp.{nat_list_eq_equiv}
-use Rattle.std.proofs.lemmas.List.{get_or_append_left, get_or_push, length_push, take_all, take_more}
-use Rattle.std.proofs.lemmas.List.FromFn.{map-range_with_len_more}
+use Rattle.std.proofs.lemmas.List.{get_or_append_left, get_or_push, length_push}
 use Rattle.std.proofs.lemmas.List.Sums.{sum_by-cons}
 use Rattle.cover_problem.specs.Numbers.{is_in, is_distinct}
 use Rattle.cover_problem.specs.Problem.{colour_beside, names_differ}
@@ -86,22 +85,3 @@ each_behind test xs x d k each last low = elim (cases_lt k (length xs)) [
 pub sum_longer : (f g : ℕ → List ℕ) (os : List ℕ) → ((o : ℕ) → length (f o) ≤ length (g o) + 1) → sum_by length (map f os) ≤ sum_by length (map g os) + length os
 sum_longer f g [] each = omega arith
 sum_longer f g (o ∷ os) each = omega (arith, sum_by-cons length (f o) (map f os), sum_by-cons length (g o) (map g os), each o, sum_longer f g os each)
-
-pub as_long : (f g : ℕ → List ℕ) (os : List ℕ) → ((o : ℕ) → length (f o) ≡ length (g o)) → map length (map f os) ≡ map length (map g os)
-as_long f g [] each = refl
-as_long f g (o ∷ os) each = rw (each o, as_long f g os each) refl
-
--- ---- lists that grow
-
--- by what a function says of the next number
-pub one_more : {X : Type 0} (f : ℕ → X) (now new : List X) (k : ℕ) (x : X) → now ≡ map f (range_with_len 0 k) → new ≡ now ++ x ∷ [] → x ≡ f k → new ≡ map f (range_with_len 0 (k + 1))
-one_more f now new k x was is next =
-    is ∙ ap (λ xs. xs ++ x ∷ []) was ∙ ap (λ y. map f (range_with_len 0 k) ++ y ∷ []) next ∙ sym (map-range_with_len_more f 0 k k (omega arith))
-
--- by the next element of another list
-pub one_more_of : {X : Type 0} (xs now new : List X) (k : ℕ) (d x : X) → k < length xs → now ≡ take k xs → new ≡ now ++ x ∷ [] → x ≡ get_or xs k d → new ≡ take (k + 1) xs
-one_more_of xs now new k d x inside was is next =
-    is ∙ ap (λ ys. ys ++ x ∷ []) was ∙ ap (λ y. take k xs ++ y ∷ []) next ∙ sym (take_more xs k d inside)
-
-pub all_of : {X : Type 0} (xs now : List X) (k : ℕ) → length xs ≤ k → now ≡ take k xs → now ≡ xs
-all_of xs now k whole was = was ∙ take_all k xs whole

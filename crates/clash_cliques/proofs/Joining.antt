@@ -14,10 +14,11 @@ use Rattle.cover_problem.proofs.Apart.{chosen_apart}
 use Rattle.cover_problem.proofs.Colours.{colours_long, colours_below}
 use Rattle.cover_problem.proofs.Counts.{count_at_most, count_none}
 use Rattle.cover_problem.proofs.Sets.{count_same}
+use Rattle.problem_copies.proofs.Growing.{as_long}
 use Rattle.used_items.specs.Covers.{HaveSameCovers}
 use Rattle.clash_cliques.specs.Cliques.{clashes_with, clash_by_twos, has_room_for, is_clique, items_with, colours_with, with_clique}
 use Rattle.clash_cliques.specs.declared.clique.Clique.{Clique}
-use Rattle.clash_cliques.proofs.Behind.{in_behind, in_front, distinct_behind, all_behind, any_front, beside_front, name_behind, each_behind, sum_longer, as_long}
+use Rattle.clash_cliques.proofs.Behind.{in_behind, in_front, distinct_behind, all_behind, any_front, beside_front, name_behind, each_behind, sum_longer}
 
 -- two different options of a list that clash by twos
 twos : (p : Problem) (os : List ℕ) (a b : ℕ) → clash_by_twos p os ≡ true → is_in os a ≡ true → is_in os b ≡ true → (a ≡ b → ⊥) → (clash p a b ≡ true) ⊎ (clash p b a ≡ true)

@@ -9,27 +9,8 @@ ghost use Rattle.used_items.specs.Covers.{HaveSameCovers};
 use crate::clique::Clique;
 use crate::laws::one_clique_keeps_covers;
 use cover_problem::{Name, Numbers, Problem};
+use problem_copies::{colour_names_of, name_by, names_of};
 use std::alloc::{AllocError, Global};
-
-/// A name with these bytes; the only error is out of memory.
-fn name_by(alloc: Global, bytes: &[u8]) -> Result<Name, AllocError>
-    ensures { IfOk result (λ name. name ≡ bytes.now) }
-{
-    Ok(Name::from_vec(Vec::from_slice(alloc, bytes)?))
-}
-
-/// A copy of the names of the problem's items. The only error is out of memory.
-#[tactic(auto, using(crate::proofs::Behind::one_more_of, crate::proofs::Behind::all_of))]
-pub fn names_of(alloc: Global, problem: &Problem) -> Result<Vec<Name>, AllocError>
-    ensures { IfOk result (λ names. names.items ≡ problem.now.names) }
-{
-    let mut names = Vec::with_capacity(alloc, problem.items() + 1)?;
-    for item in 0..problem.items() as u16 {
-        let name = name_by(alloc, problem.name(item))?;
-        names.push(name)?;
-    }
-    Ok(names)
-}
 
 /// These names, and behind them another one.
 fn names_with(alloc: Global, problem: &Problem, name: &[u8]) -> Result<Vec<Name>, AllocError>
@@ -38,19 +19,6 @@ fn names_with(alloc: Global, problem: &Problem, name: &[u8]) -> Result<Vec<Name>
     let mut names = names_of(alloc, problem)?;
     let last = name_by(alloc, name)?;
     names.push(last)?;
-    Ok(names)
-}
-
-/// A copy of the names of its colours. The only error is out of memory.
-#[tactic(auto, using(crate::proofs::Behind::one_more_of, crate::proofs::Behind::all_of))]
-pub fn colour_names_of(alloc: Global, problem: &Problem) -> Result<Vec<Name>, AllocError>
-    ensures { IfOk result (λ names. names.items ≡ problem.now.colour_names) }
-{
-    let mut names = Vec::with_capacity(alloc, problem.colour_names())?;
-    for colour in 0..problem.colour_names() as u16 {
-        let name = name_by(alloc, problem.colour_name(colour + 1))?;
-        names.push(name)?;
-    }
     Ok(names)
 }
 
@@ -72,7 +40,7 @@ fn numbers_with(
 }
 
 /// Of each option its items, and behind them the further one if it is of the clique.
-#[tactic(auto, using(crate::proofs::Behind::one_more))]
+#[tactic(auto, using(problem_copies::proofs::Growing::one_more))]
 fn options_with(
     alloc: Global,
     problem: &Problem,
@@ -93,7 +61,7 @@ fn options_with(
 }
 
 /// Of each option the colours of its items, none of the further one.
-#[tactic(auto, using(crate::proofs::Behind::one_more))]
+#[tactic(auto, using(problem_copies::proofs::Growing::one_more))]
 fn colours_with(
     alloc: Global,
     problem: &Problem,

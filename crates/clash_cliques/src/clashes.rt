@@ -2,9 +2,8 @@
 
 ghost use Rattle.std.specs.Prelude.{◌≡◌, ◌<◌, length};
 
-use crate::bits::Bits;
 use cover_problem::Problem;
-use cover_reasons::{ReasonWatch, looks_at};
+use cover_reasons::{Bits, ReasonWatch, looks_at};
 use std::alloc::{AllocError, Global};
 
 /// The options that name an item, and of these the ones that give it no colour.

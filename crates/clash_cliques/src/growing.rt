@@ -13,6 +13,7 @@ use crate::testing::has_name;
 use cover_problem::{MOST_ITEMS, Name, Numbers, Problem};
 use cover_reasons::ReasonWatch;
 use itoa::Buffer;
+use problem_copies::nodes_of;
 use std::alloc::{AllocError, Global};
 
 /// How many words of sets are looked at, some hundredths of a second. Chosen for that time.
@@ -23,15 +24,6 @@ const MOST_CLIQUES: usize = 200;
 
 /// How many items of options are copied for them, all copies of the problem together: some hundredths of a second.
 const MOST_COPIED: usize = 2_000_000;
-
-/// How many items all options name, together.
-fn size_of(problem: &Problem) -> usize {
-    let mut size: usize = 0;
-    for option in 0..problem.options() as u16 {
-        size = size.saturating_add(problem.option(option).len());
-    }
-    size
-}
 
 /// The options that name each item and give it no colour; the only error is out of memory.
 fn options_by_item(alloc: Global, problem: &Problem) -> Result<Vec<Vec<u16>>, AllocError> {
@@ -122,7 +114,7 @@ fn free_number(alloc: Global, problem: &Problem, from: u32) -> Result<u32, Alloc
 
 /// For how many cliques there is room and time.
 fn most_cliques(problem: &Problem) -> usize {
-    let copies = MOST_COPIED / size_of(problem).max(1);
+    let copies = MOST_COPIED / nodes_of(problem).max(1);
     let room = MOST_ITEMS.saturating_sub(problem.items());
     MOST_CLIQUES.min(copies).min(room)
 }
@@ -161,7 +153,7 @@ pub fn find_cliques<W: ReasonWatch>(
     watch: &mut W,
 ) -> Result<Vec<Clique>, AllocError> {
     let words = problem.options() / 64 + 1;
-    if watch.look() || size_of(problem).saturating_mul(words) > MOST_STEPS / 4 {
+    if watch.look() || nodes_of(problem).saturating_mul(words) > MOST_STEPS / 4 {
         return Ok(Vec::new(alloc));
     }
     let lists = grown_cliques(alloc, problem, watch)?;

@@ -5,10 +5,9 @@
 
 ghost use Rattle.std.specs.Prelude.{◌≡◌};
 
-use crate::bits::Bits;
 use crate::clashes::Clashes;
 use cover_problem::Problem;
-use cover_reasons::ReasonWatch;
+use cover_reasons::{Bits, ReasonWatch};
 use std::alloc::{AllocError, Global};
 
 /// How many candidates are compared before one comes into the clique: it bounds a greedy choice. Chosen, not measured.

@@ -3,7 +3,6 @@
 #![tactic(auto)]
 
 mod adding;
-mod bits;
 mod clashes;
 mod clique;
 mod excluding;
@@ -13,7 +12,7 @@ mod laws;
 mod making;
 mod testing;
 
-pub use adding::{colour_names_of, names_of, with_clique};
+pub use adding::with_clique;
 pub use clique::Clique;
 pub use excluding::{RoomByCliques, find_room_by_cliques};
 pub use growing::find_cliques;

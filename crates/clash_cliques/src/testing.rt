@@ -2,7 +2,7 @@
 
 ghost use Rattle.std.specs.Prelude.{◌≡◌, ◌<◌, ◌≤◌, ◌↔◌, length, nat_eq, not, IsTrue};
 ghost use Rattle.std.specs.Cmp.Lexicographic.{pointwise};
-ghost use Rattle.std.specs.List.{list_all, list_any, sum_by};
+ghost use Rattle.std.specs.List.{list_all, list_any};
 ghost use Rattle.cover_problem.specs.Numbers.{is_in};
 ghost use Rattle.cover_problem.specs.Prefix.{are_options, AreOptions};
 ghost use Rattle.cover_problem.specs.Problem.{forbidden, is_name};
@@ -10,6 +10,7 @@ ghost use Rattle.clash_cliques.specs.Cliques.{clashes_with, clash_by_twos, has_r
 
 use crate::clique::Clique;
 use cover_problem::{MOST_BYTES, MOST_ITEMS, MOST_NODES, Problem, clash};
+use problem_copies::nodes_of;
 
 /// Whether the option clashes with each of the others.
 fn clashes_with(problem: &Problem, option: u16, others: &[u16]) -> bool
@@ -79,18 +80,6 @@ pub(crate) fn has_name(problem: &Problem, name: &[u8]) -> bool
     false
 }
 
-/// How many items all options name, together.
-fn occurrences(problem: &Problem) -> usize
-    ensures { result ≡ sum_by length problem.now.options }
-{
-    problem.recall_rules();
-    let mut count = 0;
-    for option in 0..problem.options() as u16 {
-        count += problem.option(option).len();
-    }
-    count
-}
-
 /// Whether the problem has room for a further item of this name.
 fn has_room_for(problem: &Problem, name: &[u8]) -> bool
     ensures { result ≡ has_room_for problem.now name.now }
@@ -99,7 +88,7 @@ fn has_room_for(problem: &Problem, name: &[u8]) -> bool
     is_name(name)
         && !has_name(problem, name)
         && problem.items() < MOST_ITEMS
-        && occurrences(problem) + problem.options() <= MOST_NODES
+        && nodes_of(problem) + problem.options() <= MOST_NODES
 }
 
 /// Whether the problem has room for the clique's item, and each two of its options clash.

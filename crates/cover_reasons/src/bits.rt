@@ -57,6 +57,14 @@ impl Bits {
         }
     }
 
+    /// Takes the numbers out of this set that another one doesn't have.
+    pub fn cut(&mut self, other: &Bits) {
+        let count = self.words.len().min(other.words.len());
+        for place in 0..count {
+            self.words[place] &= other.words[place];
+        }
+    }
+
     /// How many numbers both sets have.
     pub fn common(&self, other: &Bits) -> u32 {
         let count = self.words.len().min(other.words.len());
@@ -73,17 +81,39 @@ impl Bits {
         self.common(self)
     }
 
+    /// How many words the set has.
+    pub fn words(&self) -> usize {
+        self.words.len()
+    }
+
+    /// The least number of the set.
+    pub fn first(&self) -> Option<usize> {
+        for place in 0..self.words.len() {
+            let word = self.words[place];
+            if word != 0 {
+                return Some(least_in(place, word));
+            }
+        }
+        None
+    }
+
     /// The least number of the set that another one doesn't have.
     pub fn first_outside(&self, other: &Bits) -> Option<usize> {
         let count = self.words.len().min(other.words.len());
         for place in 0..count {
             let left = self.words[place] & !other.words[place];
             if left != 0 {
-                // (sets have at most 1,000 numbers, so nothing wraps, but no contract says so)
-                let number = place.wrapping_mul(64);
-                return Some(number.wrapping_add(left.trailing_zeros() as usize));
+                return Some(least_in(place, left));
             }
         }
         None
     }
+}
+
+/// The least number that the word at a place has, which isn't 0.
+fn least_in(place: usize, word: u64) -> usize {
+    // (the numbers are those of items or of options, 20,000 at most, so nothing wraps, but no contract says so)
+    place
+        .wrapping_mul(64)
+        .wrapping_add(word.trailing_zeros() as usize)
 }

@@ -3,7 +3,7 @@
 ghost use Rattle.std.specs.Prelude.{◌≡◌};
 
 use crate::bits::Bits;
-use crate::neighbours::{Neighbours, empty_sets};
+use crate::neighbours::empty_sets;
 use cover_problem::Problem;
 use fractional_room::Row;
 use std::alloc::{AllocError, Global};
@@ -68,7 +68,7 @@ impl Demand {
     pub fn set_by_kind(
         &mut self,
         problem: &Problem,
-        neighbours: &Neighbours,
+        options: &[u16],
         kind: &Bits,
         item: usize,
     ) -> usize {
@@ -77,7 +77,7 @@ impl Demand {
             return steps;
         }
         let mut least = u16::MAX;
-        for option in neighbours.options(item) {
+        for option in options {
             if (*option as usize) < problem.options() {
                 let items = problem.option(*option);
                 steps = steps.saturating_add(items.len());

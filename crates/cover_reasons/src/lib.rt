@@ -22,8 +22,11 @@ mod weights;
 mod weights_finder;
 mod weights_test;
 
+pub use bits::Bits;
+pub use demand::Demand;
 pub use fractional_finder::find_fractional_room_until;
 pub use laws::{lack_of_room_excludes_covers, reasons_exclude_covers, weights_exclude_covers};
+pub use matching::Matching;
 pub use reason::{Reason, holds_of};
 pub use reason_finder::{
     find_fractional_reason_until, find_reason, find_reason_until, find_short_reason_until,

@@ -73,6 +73,12 @@ impl Matching {
         true
     }
 
+    /// The primary item that has an item, if one has it.
+    #[inline(always)]
+    pub fn holder(&self, item: usize) -> Option<usize> {
+        (self.holders.at(item) as usize).checked_sub(1)
+    }
+
     /// About how many items the last search for a matching looked at.
     pub fn steps(&self) -> usize {
         self.steps

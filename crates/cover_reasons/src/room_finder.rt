@@ -18,6 +18,7 @@ use crate::room_test::is_too_little;
 use crate::sides::{Sides, are_pairs};
 use cover_problem::Problem;
 use fractional_room::Row;
+use problem_copies::nodes_of;
 use std::alloc::{AllocError, Global};
 
 /// About how many items of options, and words of sets of items, are looked at for kinds: a tenth of a second.
@@ -122,19 +123,10 @@ struct Finder {
     demand: Demand,
     matching: Matching,
     sides: Sides,
-    /// How many items all options name: so many are added up where room is tested.
-    size: usize,
+    /// How many nodes the problem has: so many items of options are added up where room is tested.
+    nodes: usize,
     /// About how many items of options were looked at so far, and words of sets.
     steps: usize,
-}
-
-/// How many items all options name.
-fn size_of(problem: &Problem) -> usize {
-    let mut size: usize = 0;
-    for option in 0..problem.options() as u16 {
-        size = size.saturating_add(problem.option(option).len());
-    }
-    size
 }
 
 impl Finder {
@@ -144,7 +136,7 @@ impl Finder {
             demand: Demand::new(alloc, problem)?,
             matching: Matching::new(alloc, problem)?,
             sides: Sides::new(alloc, problem)?,
-            size: size_of(problem),
+            nodes: nodes_of(problem),
             steps: 0,
         })
     }
@@ -210,7 +202,7 @@ impl Finder {
             return Ok(None);
         }
         let room = self.matching.room(alloc, problem, &self.demand)?;
-        self.steps = self.steps.saturating_add(self.size);
+        self.steps = self.steps.saturating_add(self.nodes);
         Ok(tested(problem, room))
     }
 
@@ -273,7 +265,8 @@ fn need_kind<W: ReasonWatch>(
             if watch.look() {
                 break;
             }
-            let more = demand.set_by_kind(problem, neighbours, kind.items(), owner);
+            let options = neighbours.options(owner);
+            let more = demand.set_by_kind(problem, options, kind.items(), owner);
             steps = steps.saturating_add(more);
         }
     }

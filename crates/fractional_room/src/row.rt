@@ -42,6 +42,14 @@ impl Row {
         }
     }
 
+    /// Adds these to the first numbers, each sum up to 65,535.
+    pub fn add(&mut self, more: &[u16]) {
+        let count = self.numbers.len().min(more.len());
+        for place in 0..count {
+            self.numbers[place] = self.numbers[place].saturating_add(more[place]);
+        }
+    }
+
     /// The numbers, as a list.
     pub fn into_vec(self) -> Vec<u16> {
         let Row { numbers } = self;

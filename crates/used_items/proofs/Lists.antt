@@ -1,13 +1,12 @@
 -- Lists of numbers that are renamed, each to one of its own; and lists of names that differ.
-use Rattle.std.proofs.Common.{◌≡◌, ℕ, zero, suc, ◌+◌, ◌<◌, ◌≤◌, Bool, true, false, not, ◌==◌, nat_eq, List, [], ◌∷◌, length, map, get_or, take, ◌++◌, refl, sym, ap, ◌∙◌, inl, inr, arith}
+use Rattle.std.proofs.Common.{◌≡◌, ℕ, zero, suc, ◌+◌, ◌<◌, ◌≤◌, Bool, true, false, not, ◌==◌, nat_eq, List, [], ◌∷◌, length, map, get_or, refl, ap, ◌∙◌, inl, inr, arith}
 use Rattle.std.specs.Cmp.Lexicographic.{pointwise}
 use Rattle.std.specs.List.{list_all, list_any, range_with_len}
 use Rattle.std.proofs.lemmas.Bool.{and_parts, and_from, cases_order, eqb-true, eq-eqb, not-true, not_from_false, or_cases, or_from, or_left, or_parts, or_right}
 use Rattle.std.proofs.lemmas.Cmp.{nat_list_eq_equiv}
-use Rattle.std.proofs.lemmas.List.{length-map, take_all, take_more}
-use Rattle.std.proofs.lemmas.List.FromFn.{map-range_with_len_more}
+use Rattle.std.proofs.lemmas.List.{length-map}
 use Rattle.cover_problem.specs.Numbers.{is_in, is_distinct}
-use Rattle.cover_problem.specs.Problem.{Problem, IsProblem, colour_beside, names_differ}
+use Rattle.cover_problem.specs.Problem.{colour_beside, names_differ}
 use Rattle.cover_problem.proofs.Basics.{same_truth}
 
 -- ---- numbers that are renamed
@@ -101,21 +100,3 @@ differ_by f start (suc count) each =
     and_from (not (list_any (pointwise nat_eq (f start)) (map f (range_with_len (start + 1) count)))) (names_differ (map f (range_with_len (start + 1) count)))
     (not_from_false (list_any (pointwise nat_eq (f start)) (map f (range_with_len (start + 1) count))) (none_in (f start) f (start + 1) count (λ j low high. each start j (omega arith) (omega (arith, low)) (omega (arith, high)))))
     (differ_by f (start + 1) count (λ i j low less high. each i j (omega (arith, low)) less (omega (arith, high))))
-
--- ---- lists that grow
-
--- by what a function says of the next number
-pub one_more : {X : Type 0} (f : ℕ → X) (now new : List X) (k : ℕ) (x : X) → now ≡ map f (range_with_len 0 k) → new ≡ now ++ x ∷ [] → x ≡ f k → new ≡ map f (range_with_len 0 (k + 1))
-one_more f now new k x was is next =
-    is ∙ ap (λ xs. xs ++ x ∷ []) was ∙ ap (λ y. map f (range_with_len 0 k) ++ y ∷ []) next ∙ sym (map-range_with_len_more f 0 k k (omega arith))
-
--- by the next element of another list
-pub one_more_of : {X : Type 0} (xs now new : List X) (k : ℕ) (d x : X) → k < length xs → now ≡ take k xs → new ≡ now ++ x ∷ [] → x ≡ get_or xs k d → new ≡ take (k + 1) xs
-one_more_of xs now new k d x inside was is next =
-    is ∙ ap (λ ys. ys ++ x ∷ []) was ∙ ap (λ y. take k xs ++ y ∷ []) next ∙ sym (take_more xs k d inside)
-
-pub all_of : {X : Type 0} (xs now : List X) (k : ℕ) → length xs ≤ k → now ≡ take k xs → now ≡ xs
-all_of xs now k whole was = was ∙ take_all k xs whole
-
-pub colours_count : (p : Problem) → IsProblem p → length p.colours ≡ length p.options
-colours_count p lawful = sym (length-map p.colours length) ∙ ap length lawful.each_coloured ∙ length-map p.options length

@@ -2,9 +2,9 @@
 
 ghost use Rattle.std.specs.Prelude.{◌≡◌, ◌<◌, length};
 
-use crate::row::Row;
 use cover_problem::Problem;
-use cover_reasons::{ReasonWatch, looks_at};
+use cover_reasons::{Bits, ReasonWatch, looks_at};
+use fractional_room::Row;
 use std::alloc::{AllocError, Global};
 
 /// The class of an item that is primary, or to which some option gives a colour.
@@ -21,7 +21,7 @@ pub(crate) struct Classes {
 }
 
 /// So many empty lists; the only error is out of memory.
-pub(crate) fn empty_lists(alloc: Global, count: usize) -> Result<Vec<Vec<u16>>, AllocError> {
+fn empty_lists(alloc: Global, count: usize) -> Result<Vec<Vec<u16>>, AllocError> {
     let mut lists = Vec::with_capacity(alloc, count)?;
     for _ in 0..count {
         lists.push(Vec::new(alloc))?;
@@ -157,18 +157,21 @@ impl Classes {
         self.steps
     }
 
-    /// Whether an item is of a class, or of any class, where that is 0.
-    pub(crate) fn has(&self, class: u16, item: usize) -> bool {
-        let own = self.classes.at(item);
-        own != NONE && (class == NONE || own == class)
-    }
-
-    /// How many of these items are of a class.
-    pub(crate) fn count_in(&self, class: u16, items: &[u16]) -> usize {
-        items
-            .iter()
-            .filter(|item| self.has(class, **item as usize))
-            .count()
+    /// The items of a class, or of any class, where that is 0. The only error is out of memory.
+    pub(crate) fn members(
+        &self,
+        alloc: Global,
+        problem: &Problem,
+        class: u16,
+    ) -> Result<Bits, AllocError> {
+        let mut members = Bits::empty(alloc, problem.items())?;
+        for item in 0..problem.items() {
+            let own = self.classes.at(item);
+            if own != NONE && (class == NONE || own == class) {
+                members.insert(item);
+            }
+        }
+        Ok(members)
     }
 }
 

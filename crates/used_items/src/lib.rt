@@ -8,11 +8,10 @@ mod enough;
 mod excluding;
 mod laws;
 mod making;
-mod matching;
 mod order;
 mod promoting;
 mod room_finder;
-mod row;
+mod spare;
 
 pub use enough::is_just_enough;
 pub use excluding::is_excluded_by_used_items;

@@ -6,9 +6,9 @@ ghost use Rattle.used_items.specs.Orders.{IsPromoted};
 use crate::order::Order;
 use crate::promoting::{promoted, promotes};
 use crate::room_finder::find_full_room;
-use crate::row::Row;
 use cover_problem::Problem;
 use cover_reasons::{Endless, ReasonWatch, Room};
+use fractional_room::Row;
 use std::alloc::{AllocError, Global};
 
 /// A problem with more primary items than another one, and the room that says why: it is just enough, so each exact cover uses the items
@@ -78,8 +78,8 @@ pub fn with_room(
 /// but another first one in the order of the search.
 ///
 /// They are found by matchings of primary items with secondary ones: where lessons need each period of a class, no cover leaves one out.
-/// Where none are found there may be such items. It takes memory of the order of the problem, and a tenth of a second or so at most. The
-/// only error is out of memory.
+/// Where none are found there may be such items. It takes memory of the order of the problem, and a bit for each primary item and each item beside it;
+/// and a tenth of a second or so at most. The only error is out of memory.
 pub fn with_used_items(
     alloc: Global,
     problem: &Problem,

@@ -13,6 +13,7 @@ use crate::laws::promotion_keeps_covers;
 use crate::order::{Order, is_order};
 use cover_problem::{Name, Numbers, Problem};
 use cover_reasons::Room;
+use problem_copies::{colour_names_of, colours_by_option, name_by};
 use std::alloc::{AllocError, Global};
 
 /// For how much an item has room.
@@ -71,22 +72,8 @@ fn name_of(problem: &Problem, item: u16) -> &[u8]
     &[]
 }
 
-/// A name with these bytes; the only error is out of memory.
-fn name_by(alloc: Global, bytes: &[u8]) -> Result<Name, AllocError>
-    ensures { IfOk result (λ name. name ≡ bytes.now) }
-{
-    Ok(Name::from_vec(Vec::from_slice(alloc, bytes)?))
-}
-
-/// A list of these numbers; the only error is out of memory.
-fn numbers_by(alloc: Global, numbers: &[u16]) -> Result<Numbers, AllocError>
-    ensures { IfOk result (λ copied. copied ≡ numbers.now) }
-{
-    Ok(Numbers::from_vec(Vec::from_slice(alloc, numbers)?))
-}
-
 /// The names of the items in an order.
-#[tactic(auto, using(crate::proofs::Lists::one_more))]
+#[tactic(auto, using(problem_copies::proofs::Growing::one_more))]
 fn names_in_order(alloc: Global, problem: &Problem, order: &Order) -> Result<Vec<Name>, AllocError>
     ensures { IfOk result (λ names. names.items
         ≡ map (name_at problem.now order.now) (range_with_len 0 (length problem.now.names))) }
@@ -111,7 +98,7 @@ fn places_of(alloc: Global, order: &Order, items: &[u16]) -> Result<Numbers, All
 }
 
 /// Of each option the places of its items.
-#[tactic(auto, using(crate::proofs::Lists::one_more))]
+#[tactic(auto, using(problem_copies::proofs::Growing::one_more))]
 fn options_in_order(
     alloc: Global,
     problem: &Problem,
@@ -126,33 +113,6 @@ fn options_in_order(
         options.push(places)?;
     }
     Ok(options)
-}
-
-/// The colours of each option.
-#[tactic(auto, using(crate::proofs::Lists::one_more_of, crate::proofs::Lists::all_of, crate::proofs::Lists::colours_count))]
-fn colours_by_option(alloc: Global, problem: &Problem) -> Result<Vec<Numbers>, AllocError>
-    ensures { IfOk result (λ colours. colours.items ≡ problem.now.colours) }
-{
-    problem.recall_rules();
-    let mut colours = Vec::with_capacity(alloc, problem.options())?;
-    for option in 0..problem.options() as u16 {
-        let copied = numbers_by(alloc, problem.colours(option))?;
-        colours.push(copied)?;
-    }
-    Ok(colours)
-}
-
-/// The names of the colours.
-#[tactic(auto, using(crate::proofs::Lists::one_more_of, crate::proofs::Lists::all_of))]
-fn colour_names_of(alloc: Global, problem: &Problem) -> Result<Vec<Name>, AllocError>
-    ensures { IfOk result (λ names. names.items ≡ problem.now.colour_names) }
-{
-    let mut names = Vec::with_capacity(alloc, problem.colour_names())?;
-    for colour in 0..problem.colour_names() as u16 {
-        let name = name_by(alloc, problem.colour_name(colour + 1))?;
-        names.push(name)?;
-    }
-    Ok(names)
 }
 
 /// The problem in an order that makes those items primary that have room, which is just enough. It has the same exact covers. The only

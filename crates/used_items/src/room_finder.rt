@@ -3,12 +3,12 @@
 ghost use Rattle.std.specs.Prelude.{◌≡◌};
 
 use crate::classes::Classes;
-use crate::demand::Demand;
+use crate::demand::need_class;
 use crate::enough::is_just_enough;
-use crate::matching::Matching;
-use crate::row::Row;
+use crate::spare::Spare;
 use cover_problem::Problem;
-use cover_reasons::{ReasonWatch, Room};
+use cover_reasons::{Demand, Matching, ReasonWatch, Room};
+use fractional_room::Row;
 use std::alloc::{AllocError, Global};
 
 /// About how many items of options are looked at, a tenth of a second. Chosen for that time.
@@ -52,11 +52,50 @@ impl Total {
     }
 }
 
+/// What the search keeps from one class to the next.
+#[derive(Drop)]
+struct Finder {
+    demand: Demand,
+    matching: Matching,
+    spare: Spare,
+}
+
+impl Finder {
+    fn new(alloc: Global, problem: &Problem) -> Result<Finder, AllocError> {
+        Ok(Finder {
+            demand: Demand::new(alloc, problem)?,
+            matching: Matching::new(alloc, problem)?,
+            spare: Spare::new(alloc, problem)?,
+        })
+    }
+
+    /// Adds the room of a class. Returns about how many items, and words of sets of items, were looked at.
+    fn add_class(
+        &mut self,
+        alloc: Global,
+        problem: &Problem,
+        classes: &Classes,
+        class: u16,
+        total: &mut Total,
+    ) -> Result<usize, AllocError> {
+        let mut steps = need_class(alloc, problem, classes, class, &mut self.demand)?;
+        let is_met = self.matching.meets(problem, &self.demand);
+        steps = steps.saturating_add(self.matching.steps());
+        if is_met {
+            self.spare.set(problem, &self.demand, &self.matching);
+            steps = steps.saturating_add(self.spare.steps());
+            let room = self.spare.full_room(alloc, problem, &self.demand)?;
+            total.add(problem, &room);
+        }
+        Ok(steps)
+    }
+}
+
 /// Room that may be just enough for an exact cover: that of secondary items of one class, no two of which an option names, or of all
 /// classes, for primary items that name them in each of their options; several such rooms are added up.
 ///
-/// It looks at some 20,000,000 items of options at most, until the watch ends that, and takes memory of the order of the problem. The only error is
-/// out of memory.
+/// It looks at some 20,000,000 items of options at most, until the watch ends that, and takes memory of the order of the problem, and a bit for each
+/// primary item and each item beside it. The only error is out of memory.
 pub(crate) fn find_full_room<W: ReasonWatch>(
     alloc: Global,
     problem: &Problem,
@@ -87,34 +126,17 @@ fn add_classes<W: ReasonWatch>(
     total: &mut Total,
     watch: &mut W,
 ) -> Result<(), AllocError> {
-    let mut matching = Matching::new(alloc, problem)?;
+    let mut finder = Finder::new(alloc, problem)?;
     let mut steps = classes.steps();
     for turn in 1..=classes.count() {
         if steps > MOST_STEPS || watch.look() {
             return Ok(());
         }
-        let used = add_class(alloc, problem, classes, turn, &mut matching, total)?;
+        let used = finder.add_class(alloc, problem, classes, turn, total)?;
         steps = steps.saturating_add(used);
     }
     if classes.count() > 1 && steps <= MOST_STEPS && !watch.look() {
-        add_class(alloc, problem, classes, 0, &mut matching, total)?;
+        finder.add_class(alloc, problem, classes, 0, total)?;
     }
     Ok(())
-}
-
-/// Adds the room of a class. Returns how many items were looked at.
-fn add_class(
-    alloc: Global,
-    problem: &Problem,
-    classes: &Classes,
-    class: u16,
-    matching: &mut Matching,
-    total: &mut Total,
-) -> Result<usize, AllocError> {
-    let demand = Demand::new(alloc, problem, classes, class)?;
-    if matching.meets(problem, &demand) {
-        let room = matching.full_room(alloc, problem, &demand)?;
-        total.add(problem, &room);
-    }
-    Ok(demand.steps().saturating_add(matching.steps()))
 }
