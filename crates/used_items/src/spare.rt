@@ -1,4 +1,8 @@
 //! Which items each matching of what primary items need with what they may have uses.
+//!
+//! An item that one largest matching leaves free is reached from a free one by an alternating path (Berge). The items that no such path
+//! reaches are used by every matching (the decomposition of Dulmage and Mendelsohn). Nothing of it is believed: it comes to needs and rooms,
+//! which are added up.
 
 ghost use Rattle.std.specs.Prelude.{◌≡◌};
 
