@@ -4,7 +4,7 @@
 mod audited;
 mod first_cause;
 mod followed_run;
-mod machine;
+mod host;
 mod memory_share;
 mod network;
 mod overcounts;
@@ -14,7 +14,7 @@ mod solve;
 
 pub use audited::{AuditFinding, write_audited};
 pub use followed_run::FollowedRun;
-pub use machine::{Machine, names_of};
+pub use host::{Host, names_of};
 pub use memory_share::{USUAL_BOOK_BYTES, book_bytes_of};
 pub use network::{Loopback, Network, NetworkFault};
 pub use quiet_run::QuietRun;

@@ -13,7 +13,7 @@ use certificate_engine::{begins_certificate, certificate_engine};
 use certified::{Asked, run_certified};
 use command_line::request;
 pub use command_line::{SettingsFault, settings};
-use cover_engines::{Loopback, Machine, USUAL_BOOK_BYTES, book_bytes_of, names_of};
+use cover_engines::{Host, Loopback, USUAL_BOOK_BYTES, book_bytes_of, names_of};
 pub use cover_engines::{SolveEnd, solve_engine};
 use dlx_reader::{CountedReader, CountedWriter, Sink};
 use either::Either;
@@ -240,7 +240,7 @@ fn run_solve<E: Sink + Send, R: Threads + Wait + Clock + Net + Sync>(
     source: &mut Input,
     errors: &mut E,
 ) -> u8 {
-    let machine = Machine {
+    let host = Host {
         rt: threads,
         alloc: rt.alloc(),
         network: Loopback {
@@ -250,7 +250,7 @@ fn run_solve<E: Sink + Send, R: Threads + Wait + Clock + Net + Sync>(
         lines: line_style(rt, request.progress),
         book_bytes: book_bytes(rt),
     };
-    machine.solve(request, source, &mut output(rt), errors)
+    host.solve(request, source, &mut output(rt), errors)
 }
 
 /// Runs what is asked for on the problem's file, and returns the exit status.

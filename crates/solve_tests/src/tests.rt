@@ -8,7 +8,7 @@
 mod audited;
 mod followed;
 mod held;
-mod machine;
+mod host;
 mod memory_share;
 mod order;
 mod sole;
@@ -16,7 +16,7 @@ mod starved;
 
 ghost use Rattle.std.specs.Prelude.{◌≡◌, ◌≤◌};
 
-use cover_engines::{Loopback, Machine, Network, USUAL_BOOK_BYTES, links, solve_engine};
+use cover_engines::{Host, Loopback, Network, USUAL_BOOK_BYTES, links, solve_engine};
 use cover_problem::Problem;
 use dlx_reader::{CountedReader, CountedWriter, read_problem};
 use run_book::Run;
@@ -119,7 +119,7 @@ struct Solved {
     status: u8,
 }
 
-/// Runs `solve` over this network, by the call that the program makes, on a machine on which the books of a run may take a gigabyte.
+/// Runs `solve` over this network, by the call that the program makes, on a host on which the books of a run may take a gigabyte.
 fn solve_over<N: Network, R: Threads + Wait + Clock + Sync>(
     rt: &R,
     alloc: Global,
@@ -130,7 +130,7 @@ fn solve_over<N: Network, R: Threads + Wait + Clock + Sync>(
     solve_on(rt, alloc, network, text, request, USUAL_BOOK_BYTES)
 }
 
-/// The same on a machine on which the books of a run may take so many bytes.
+/// The same on a host on which the books of a run may take so many bytes.
 fn solve_on<N: Network, R: Threads + Wait + Clock + Sync>(
     rt: &R,
     alloc: Global,
@@ -141,14 +141,14 @@ fn solve_on<N: Network, R: Threads + Wait + Clock + Sync>(
 ) -> Solved {
     let (mut out, mut errors) = (Vec::new(alloc), Vec::new(alloc));
     let mut source = CountedReader::new(text.as_bytes());
-    let machine = Machine {
+    let host = Host {
         rt,
         alloc,
         network,
         lines: LineStyle::Listed,
         book_bytes,
     };
-    let status = machine.solve(
+    let status = host.solve(
         request,
         &mut source,
         &mut CountedWriter::new(&mut out),

@@ -27,7 +27,7 @@ const MEGABYTE: u64 = 1_000_000;
 
 /// What `solve` runs on.
 #[derive(Drop)]
-pub struct Machine<'a, N: Network, R: Threads + Wait + Clock + Sync> {
+pub struct Host<'a, N: Network, R: Threads + Wait + Clock + Sync> {
     /// Where its threads come from.
     pub rt: &'a R,
     /// Where its memory comes from.
@@ -40,7 +40,7 @@ pub struct Machine<'a, N: Network, R: Threads + Wait + Clock + Sync> {
     pub book_bytes: u64,
 }
 
-impl<N: Network, R: Threads + Wait + Clock + Sync> Machine<'_, N, R> {
+impl<N: Network, R: Threads + Wait + Clock + Sync> Host<'_, N, R> {
     /// Reads a problem to its end, lets sites search it as the request has it, writes the answer, and with an audit what that found, and
     /// returns the exit status: 0 for a cover, 1 for none, 4 for no answer, 6 where the audit is unclean.
     ///

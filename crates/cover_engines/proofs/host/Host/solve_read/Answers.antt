@@ -1,7 +1,7 @@
 use Rattle.std.proofs.Common.{Err, ap, refl}
 use Rattle.cover_engines.specs.Solve.{SolveSays}
 use Rattle.cover_engines.proofs.Ends.{ends_said, ends_stopped}
-use Rattle.cover_engines.proofs.machine.Machine.solve_read.Goals as goal
+use Rattle.cover_engines.proofs.host.Host.solve_read.Goals as goal
 
 pub returns-in-Ok-search : goal.returns-in-Ok-search
 returns-in-Ok-search g c = λ text read.
