@@ -36,7 +36,7 @@ pub struct Task<'a, R: Threads + Wait + Clock + Sync> {
     pub alloc: Global,
     /// How long it may last; as long as it takes where there is none.
     pub time: Option<TimeLimit>,
-    /// How many threads may work at once: two search and learn, and what is more works for a run in memory.
+    /// How many threads search and learn: two, and what is more works for a run in memory. The search for a reason has one more.
     pub threads: u64,
     /// Whether what the answer rests on is written behind it.
     pub reason: bool,

@@ -98,7 +98,7 @@ pub(crate) fn learner_lane<R: Wait, L: LearnerWatch>(
 ) -> Result<Option<Won>, AllocError>
     ensures { IfOk result (λ found. IfSome found (IsWonOf problem.now)) }
 {
-    if !race.begins_learning(rt) {
+    if !race.await_learning(rt) {
         return Ok(None);
     }
     let found = learned(alloc, problem, watch);
@@ -156,7 +156,7 @@ fn ran_later<R: Threads + Wait + Clock + Sync>(
     requires { workers ≤ 8 }
     ensures { IfSome result (IsWonOf problem.now) }
 {
-    if workers == 0 || !race.begins_run(rt) {
+    if workers == 0 || !race.await_run(rt) {
         return None;
     }
     ran(rt, alloc, problem, workers, race.over())
@@ -174,7 +174,7 @@ pub(crate) fn run_lane<R: Threads + Wait + Clock + Sync>(
     ensures { IfSome result (IsWonOf problem.now) }
 {
     let race = watch.race;
-    if !race.begins_reason(rt, threads) {
+    if !race.await_reason(rt, threads) {
         return None;
     }
     let found = match excluded(alloc, problem, watch) {

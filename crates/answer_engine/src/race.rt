@@ -67,26 +67,26 @@ impl Race {
         self.has_begun.store(true, Ordering::SeqCst);
     }
 
-    /// Waits, for the learner, as `is_begun` does for any lane.
-    pub(crate) fn begins_learning<R: Wait>(&self, rt: &R) -> bool {
-        self.is_begun(rt, &self.learner, ALONE)
+    /// Waits, for the learner, as `await_start` does for any lane.
+    pub(crate) fn await_learning<R: Wait>(&self, rt: &R) -> bool {
+        self.await_start(rt, &self.learner, ALONE)
     }
 
-    /// Waits, for the reason where so many threads may work at once, as `is_begun` does for any lane.
-    pub(crate) fn begins_reason<R: Wait>(&self, rt: &R, threads: u64) -> bool {
+    /// Waits, for the reason where so many threads search and learn, as `await_start` does for any lane.
+    pub(crate) fn await_reason<R: Wait>(&self, rt: &R, threads: u64) -> bool {
         let wait = if threads > 1 { FIRST } else { ALONE };
-        self.is_begun(rt, &self.run, wait)
+        self.await_start(rt, &self.run, wait)
     }
 
-    /// Waits, for the run behind its reason, as `is_begun` does for any lane.
-    pub(crate) fn begins_run<R: Wait>(&self, rt: &R) -> bool {
-        self.is_begun(rt, &self.run, ALONE - FIRST)
+    /// Waits, for the run behind its reason, as `await_start` does for any lane.
+    pub(crate) fn await_run<R: Wait>(&self, rt: &R) -> bool {
+        self.await_start(rt, &self.run, ALONE - FIRST)
     }
 
     /// Waits for so many milliseconds, after which the search has lasted long enough for a further lane, or until it has ended. Returns whether the
     /// lane is to begin: not where the race is over, nor where the search hasn't begun. (The lane of a thread that can't be started runs before the
     /// others.)
-    fn is_begun<R: Wait>(&self, rt: &R, start: &Parker, milliseconds: u64) -> bool {
+    fn await_start<R: Wait>(&self, rt: &R, start: &Parker, milliseconds: u64) -> bool {
         start.park_timeout(rt, Duration::from_millis(milliseconds));
         self.has_begun.load(Ordering::SeqCst) && !self.is_over()
     }

@@ -6,9 +6,9 @@ ghost use Rattle.clap.specs.declared.builder.command.Command.TheViews.{out-Comma
 ghost use Rattle.command_line.specs.CommandLine.{alone_app, answer_app, answering_app, check_app, file_rule, flag_rule, greatest_fuel_rule, learn_app, limit_rule, number_rule, one_thread_app, reasoning_app, simulate_app, sites_app, solve_app, solver_app, threads_app, versioned, why_app};
 
 use crate::ranges::{
-    ENTRIES_HELP, FUEL_HELP, GREATEST_FUEL, JOB_FUEL_HELP, MEGABYTES_HELP, NODE_RESTARTS_HELP,
-    NODES_HELP, RESTARTS_HELP, RUN_SECONDS_HELP, SECONDS_HELP, SEED_HELP, THREAD_TURNS_HELP,
-    THREADS_HELP, TURNS_HELP, WORKERS_HELP,
+    BASE_FUEL_HELP, ENTRIES_HELP, FUEL_HELP, GREATEST_FUEL, JOB_FUEL_HELP, MEGABYTES_HELP,
+    NODE_RESTARTS_HELP, NODES_HELP, RESTARTS_HELP, RUN_SECONDS_HELP, SECONDS_HELP, SEED_HELP,
+    THREAD_TURNS_HELP, THREADS_HELP, TURNS_HELP, WORKERS_HELP,
 };
 use clap::error::ErrorKind;
 use clap::{Arg, ArgAction, Command, Error};
@@ -22,13 +22,29 @@ const VERSION: &str = "1.0.0";
 const SEARCH_STATUSES: &str =
     "Statuses: 0 a cover, 1 none, 2 a mistake on the command line, 3 a refused file or a failed device, 4 no answer, 5 out of memory";
 
+/// The exit statuses of a run over sockets, as help lists them.
+const SOLVE_STATUSES: &str =
+    "Statuses: 0 a cover, 1 none, 2 a mistake on the command line, 3 a refused file or a failed device, 4 no answer, 5 out of memory, 6 an unclean audit";
+
 /// The exit statuses of a check, as help lists them.
 const CHECK_STATUSES: &str =
     "Statuses: 0 right, 1 wrong, 2 a mistake on the command line, 3 a refused file or a failed device, 4 no answer, 5 out of memory";
 
 /// The exit statuses of the search for a reason, as help lists them.
 const WHY_STATUSES: &str =
-    "Statuses: 1 none, 2 a mistake on the command line, 3 a refused file or a failed device, 4 no reason found, 5 out of memory";
+    "Statuses: 1 none, 2 a mistake on the command line, 3 a refused file, a failed device, or no certificate says the reason, 4 no reason found, 5 out of memory";
+
+/// What help says of `--certificate`.
+const CERTIFICATE_HELP: &str =
+    "Where there is no cover, writes a certificate to this file: lines by which anybody can check that";
+
+/// The same where it goes with `--unlimited` alone.
+const UNLIMITED_CERTIFICATE_HELP: &str =
+    "Where there is no cover, writes a certificate to this file: lines by which anybody can check that; only with --unlimited";
+
+/// The same where workers search otherwise.
+const ANSWER_CERTIFICATE_HELP: &str =
+    "Where there is no cover, writes a certificate to this file: lines by which anybody can check that; no workers search then";
 
 fn file_argument<'a>(alloc: Global) -> Arg<'a>
     ensures rule { rule_of result ≡ file_rule (codes "file") }
@@ -144,15 +160,11 @@ fn time_argument<'a>(alloc: Global) -> Arg<'a>
 }
 
 /// Where a certificate goes.
-fn certificate_argument<'a>(alloc: Global) -> Arg<'a>
+fn certificate_argument<'a>(alloc: Global, help: &'a str) -> Arg<'a>
     ensures rule { rule_of result ≡ limit_rule (codes "certificate") }
     ensures own { result.global ≡ false }
 {
-    limit_argument(
-        alloc,
-        "certificate",
-        "Where there is no cover, writes lines by which anybody can check that to this file; check tests them. With alone only beside --unlimited; answer begins no workers then",
-    )
+    limit_argument(alloc, "certificate", help)
 }
 
 /// Whether what an answer rests on is written behind it.
@@ -175,7 +187,8 @@ fn alone_command<'a>(alloc: Global) -> Result<Command<'a>, AllocError>
     let command = described(alloc, "alone", about).after_help(SEARCH_STATUSES);
     let command = with_two(command, file_argument(alloc), fuel_argument(alloc))?;
     let command = with_two(command, progress_argument(alloc), unlimited_argument(alloc))?;
-    with_two(command, time_argument(alloc), certificate_argument(alloc))
+    let certificate = certificate_argument(alloc, UNLIMITED_CERTIFICATE_HELP);
+    with_two(command, time_argument(alloc), certificate)
 }
 
 fn check_command<'a>(alloc: Global) -> Result<Command<'a>, AllocError>
@@ -195,12 +208,13 @@ fn answer_command<'a>(alloc: Global) -> Result<Command<'a>, AllocError>
     ensures local { IfOk result (λ command. (out-Command command).has_globals ≡ false) }
 {
     let about =
-        "Writes any exact cover of the problem, or none, by whatever is first: a search, a reason, or learning from dead ends";
+        "Writes any exact cover of the problem, or none, by whatever is first: a search, learning from dead ends, a reason, or workers in several places";
     let command = described(alloc, "answer", about).after_help(SEARCH_STATUSES);
     let command = with_two(command, file_argument(alloc), progress_argument(alloc))?;
     let threads = limit_argument(alloc, "threads", THREADS_HELP);
     let command = with_two(command, threads, time_argument(alloc))?;
-    with_two(command, reason_argument(alloc), certificate_argument(alloc))
+    let certificate = certificate_argument(alloc, ANSWER_CERTIFICATE_HELP);
+    with_two(command, reason_argument(alloc), certificate)
 }
 
 fn why_command<'a>(alloc: Global) -> Result<Command<'a>, AllocError>
@@ -210,7 +224,8 @@ fn why_command<'a>(alloc: Global) -> Result<Command<'a>, AllocError>
     let about =
         "Looks for a reason why the problem has no exact cover that can be added up by hand, and writes it; it may find none";
     let command = described(alloc, "why", about).after_help(WHY_STATUSES);
-    with_two(command, file_argument(alloc), certificate_argument(alloc))
+    let certificate = certificate_argument(alloc, CERTIFICATE_HELP);
+    with_two(command, file_argument(alloc), certificate)
 }
 
 fn learn_command<'a>(alloc: Global) -> Result<Command<'a>, AllocError>
@@ -226,7 +241,7 @@ fn learn_command<'a>(alloc: Global) -> Result<Command<'a>, AllocError>
         number_argument(alloc, "seed", "1", SEED_HELP),
     )?;
     let command = with_two(command, progress_argument(alloc), time_argument(alloc))?;
-    command.arg(certificate_argument(alloc))
+    command.arg(certificate_argument(alloc, CERTIFICATE_HELP))
 }
 
 /// What sites search, how many nodes there are, and the seed of what is drawn.
@@ -234,14 +249,16 @@ fn sites_command<'a>(
     alloc: Global,
     name: &'a str,
     about: &'a str,
+    fuel_help: &'a str,
+    statuses: &'a str,
 ) -> Result<Command<'a>, AllocError>
     ensures app { IfOk result (λ command. app_of command ≡ sites_app name.now) }
     ensures local { IfOk result (λ command. (out-Command command).has_globals ≡ false) }
 {
     let searching = with_two(
-        described(alloc, name, about),
+        described(alloc, name, about).after_help(statuses),
         file_argument(alloc),
-        number_argument(alloc, "fuel", "1000", JOB_FUEL_HELP),
+        number_argument(alloc, "fuel", "1000", fuel_help),
     )?;
     with_two(
         searching,
@@ -254,10 +271,9 @@ fn simulate_command<'a>(alloc: Global) -> Result<Command<'a>, AllocError>
     ensures app { IfOk result (λ command. app_of command ≡ simulate_app) }
     ensures local { IfOk result (λ command. (out-Command command).has_globals ≡ false) }
 {
-    let about =
-        "Lets a world of nodes search the problem, by chance, and writes what it publishes. Statuses: as of alone";
+    let about = "Lets a world of nodes search the problem, by chance, and writes what it publishes";
     with_two(
-        sites_command(alloc, "simulate", about)?,
+        sites_command(alloc, "simulate", about, JOB_FUEL_HELP, SEARCH_STATUSES)?,
         number_argument(alloc, "turns", "10000", TURNS_HELP),
         number_argument(alloc, "restarts", "0", RESTARTS_HELP),
     )
@@ -269,9 +285,9 @@ fn threads_command<'a>(alloc: Global) -> Result<Command<'a>, AllocError>
     ensures local { IfOk result (λ command. (out-Command command).has_globals ≡ false) }
 {
     let about =
-        "Lets nodes with threads of their own search the problem over UDP on this machine, and writes what they publish. Statuses: as of alone";
+        "Lets nodes with threads of their own search the problem over UDP on this machine, and writes what they publish";
     let limited = with_two(
-        sites_command(alloc, "solve", about)?,
+        sites_command(alloc, "solve", about, BASE_FUEL_HELP, SOLVE_STATUSES)?,
         number_argument(alloc, "turns", "1000000", THREAD_TURNS_HELP),
         number_argument(alloc, "restarts", "0", NODE_RESTARTS_HELP),
     )?;

@@ -168,7 +168,7 @@ pub fn megabytes(inner: &ArgMatches<'_>) -> Option<Option<u32>>
     number_within(inner, "megabytes", 1, MOST_MEGABYTES)
 }
 
-/// Returns how many threads may work at once, from 2 to 10, if that is given; none where the value is out of this range.
+/// Returns how many threads search and learn, from 2 to 10, if that is given; none where the value is out of this range.
 pub fn threads(inner: &ArgMatches<'_>) -> Option<Option<u32>>
     ensures given { IfSome result (SpellsIf (first_value (found_of inner.now) (codes "threads"))) }
     ensures some { IfSome result (λ threads. ForSome threads (λ threads. 2 ≤ threads)) }

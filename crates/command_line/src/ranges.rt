@@ -5,11 +5,16 @@
 pub const GREATEST_FUEL: &str = "18446744073709551615";
 
 /// What help says of `--fuel` where one thread searches.
-pub const FUEL_HELP: &str = "How many prefixes the whole search may visit, from 1";
+pub const FUEL_HELP: &str =
+    "How many prefixes the whole search may count, from 1; those below a state that it skips count, too";
 
-/// What help says of `--fuel` where workers search jobs.
+/// What help says of `--fuel` of a simulation.
 pub const JOB_FUEL_HELP: &str =
     "How many prefixes one job may visit, from 1; a job that needs more is split, so it limits no search";
+
+/// What help says of `--fuel` where threads search jobs.
+pub const BASE_FUEL_HELP: &str =
+    "The base by which a run sets how many prefixes a job may visit, from 1; it limits no search";
 
 /// What is written of a `--fuel` outside.
 pub const FUEL_REFUSED: &str = "--fuel takes 1 to 18446744073709551615";
@@ -97,7 +102,7 @@ pub const MOST_THREADS: u64 = 10;
 
 /// What help says of `--threads`.
 pub const THREADS_HELP: &str =
-    "How many threads may work at once, 2 to 10; as many as there are processors if not given";
+    "How many threads search and learn, 2 to 10; as many as there are processors if not given; while a reason is looked for there is one more";
 
 /// What is written of a `--threads` outside.
 pub const THREADS_REFUSED: &str = "--threads takes 2 to 10";

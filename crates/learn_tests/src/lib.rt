@@ -1,4 +1,4 @@
-//! Tests of `learn_engine`: what it writes of problems in memory, and the line of progress.
+//! Tests of `learn` and its line of progress, of `answer` and its runs in memory, and of the search for causes.
 #![tactic(auto)]
 
 #[cfg(test)]

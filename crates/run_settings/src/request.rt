@@ -19,7 +19,7 @@ pub struct Request<'a> {
     pub progress: bool,
     /// Whether a search by one thread has no limit of visits.
     pub unlimited: bool,
-    /// How many threads may look for an answer by whatever is first, from 2 to 10; none for as many as there are processors.
+    /// How many threads search and learn for an answer by whatever is first, from 2 to 10; none for as many as there are processors.
     pub threads: Option<u32>,
     /// Whether what an answer rests on is written behind it.
     pub reason: bool,

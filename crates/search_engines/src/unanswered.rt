@@ -11,9 +11,9 @@ use std::fmt::{self, Display, Formatter, Write};
 /// Why a command has no answer, with what may give one.
 #[derive(Clone, Copy, Debug, PartialEq, Eq)]
 pub enum Unanswered {
-    /// It has visited as many prefixes as its limit allows.
+    /// It would count more prefixes than its limit allows.
     Fuel,
-    /// It has visited as many prefixes as the greatest limit allows, so there is no more fuel to advise.
+    /// It would count more prefixes than the greatest limit allows, so there is no more fuel to advise.
     GreatestFuel,
     /// It has lasted as long as its limit allows, and `answer` has other ways.
     Time,
@@ -43,7 +43,7 @@ impl Display for Unanswered {
         f.write_str(match self {
             Unanswered::Fuel => "the fuel is spent: try more --fuel, or --unlimited",
             Unanswered::GreatestFuel =>
-                "more visits than can be counted, 2^64 - 1: try answer FILE, or --unlimited, which have no such limit",
+                "more prefixes than can be counted, 2^64 - 1: try answer FILE, or --unlimited, which have no such limit",
             Unanswered::Room =>
                 "the room for what is learned is full: try another --seed, or answer",
             Unanswered::Time => "the time is over: try more --seconds, or answer",

@@ -26,7 +26,7 @@ impl Looks {
 
     /// Begins a look, unless it would find what the last one found: nothing. The count is read here and nowhere else, so before the look: what
     /// moves meanwhile brings one look more, and is never missed.
-    pub fn is_begun(&mut self, signals: &Signals) -> bool {
+    pub fn begin_if_new(&mut self, signals: &Signals) -> bool {
         self.begun = signals.stirs();
         self.in_vain != Some(self.begun)
     }

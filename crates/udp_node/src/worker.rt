@@ -134,7 +134,7 @@ impl<'r, 't, 's, J: Run, C: Core + Drop, N: CellName, H: Gate + Follower, R: Wai
     /// Takes up work: a unit is searched, a settled frame finished; where there is none it asks another site.
     fn take(&mut self) -> Turn {
         // (a Take that is answered Idle is an entry, too, and idle workers would soon fill the book)
-        if !self.looks.is_begun(self.actor.shared.signals) {
+        if !self.looks.begin_if_new(self.actor.shared.signals) {
             return self.rest();
         }
         let taken = match self.actor.act(self.rt, Event::Take) {

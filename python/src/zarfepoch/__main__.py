@@ -1,4 +1,6 @@
-"""The command zarfepoch: answers a puzzle of a kind, or a problem that is given as JSON. `zarfepoch --help` describes it (`solved`)."""
+"""The command zarfepoch: answers a puzzle of a kind, or a problem that is given as JSON, or calls a tool of the package if its first word names one.
+`zarfepoch --help` describes it (`solved`).
+"""
 from __future__ import annotations
 
 import json
@@ -7,7 +9,8 @@ from collections.abc import Hashable
 from typing import Any, Optional
 
 from . import Colored, Word, solve
-from .command_line.ends import run, stop
+from .command_line.ends import run, Status, stop
+from .commands import COMMANDS, command_of
 from .files.whole_files import Unreadable, read_bytes
 from .solved import command_line, kind_missing, solve_kind
 
@@ -44,7 +47,11 @@ def solve_json(text: bytes, seconds: Optional[float] = None) -> Optional[list[in
     return solve([[item_of(word, place) for word in option] for place, option in enumerate(options)], primary, secondary, seconds)
 
 
-def main() -> int:
+def main() -> Status:
+    tool = "-".join(["zarfepoch", *sys.argv[1:2]])
+    if sys.argv[1:] and tool in COMMANDS:
+        sys.argv[:2] = [tool]
+        command_of(COMMANDS[tool])()
     given = command_line().parse_args()
     if given.kind and given.json:
         stop("--json FILE stands for a KIND, and both are given")

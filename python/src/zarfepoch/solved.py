@@ -4,7 +4,8 @@
     zarfepoch --json FILE [--seconds N]
 
 The kinds are %KINDS%;
-`zarfepoch KIND --help` says what each reads, as in
+`zarfepoch KIND --help` says what each reads. The tools are %TOOLS%;
+`zarfepoch TOOL --help` says what each does, as `zarfepoch explain FILE` lists the mistakes in a file. Of kinds:
 
     zarfepoch sudoku puzzle.txt                     draws the answer in the terminal
     zarfepoch killer killer.txt --out killer.svg    draws it as a picture
@@ -43,6 +44,7 @@ from typing import Optional
 
 from .command_line.ends import complain, stop
 from .command_line.words import as_called, parser_of
+from .commands import COMMANDS
 from .errors import NoProgram, OutOfMemory, ProgramError, TimeIsUp
 from .files.cover_files import Problem, read_audited, read_problem
 from .files.fault_words import plural
@@ -78,7 +80,8 @@ WAITING, MOST_MOVED = 10.0, 20
 
 
 def command_line() -> argparse.ArgumentParser:
-    parser = parser_of((__doc__ or "").replace("%KINDS%", textwrap.fill(kinds_listed(), 130)))
+    *tools, last = (name.replace("zarfepoch-", "") for name in COMMANDS if name != "zarfepoch")
+    parser = parser_of((__doc__ or "").replace("%KINDS%", textwrap.fill(kinds_listed(), 130)).replace("%TOOLS%", f"{', '.join(tools)} and {last}"))
     parser.add_argument("--json", metavar="FILE", help="a problem in JSON, in place of a kind")
     parser.add_argument("--seconds", metavar="N", type=positive, help="how long a search may take (no limit where it isn't given)")
     for words in kinds_of(parser):

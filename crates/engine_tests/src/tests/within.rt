@@ -246,7 +246,7 @@ static UNANSWERED: [(u8, Option<Unanswered>, &str); 9] = [
     (
         4,
         Some(Unanswered::GreatestFuel),
-        "ended: more visits than can be counted, 2^64 - 1: try answer FILE, or --unlimited, which have no such limit\n",
+        "ended: more prefixes than can be counted, 2^64 - 1: try answer FILE, or --unlimited, which have no such limit\n",
     ),
     (
         4,
