@@ -39,7 +39,7 @@ def own_words(why: str) -> str:
 def missing_program(named: Optional[str]) -> str:
     """What is said where there is no program, at the place that is named, if one is."""
     where = named or "solve_cli, neither named by ZARFEPOCH nor on the path"
-    return (f"there is no program {where}; at the top of a clone (cd crates/solve_cli && rt run -- --version) builds "
+    return (f"there is no program {where}; at the top of a clone scripts/build.sh builds "
             "crates/solve_cli/out/solve_cli, and ZARFEPOCH may name that; scripts/build.sh --unproved leaves one without proofs in some minutes")
 
 
