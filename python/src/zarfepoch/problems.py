@@ -173,9 +173,9 @@ class Problem:
               audit: bool = False) -> Optional[list[int]]:
         """The places of the options of one exact cover, in rising order, or None where there is none.
 
-        It takes whatever is first of the ways of `solve_cli answer`, on all processors. With `nodes` (1 to 16) and `workers` (1 to 8) several threads search, as `solve_cli solve` does; with `audit` their run is audited, so that None is right
-        whatever the network did. Raises `TimeIsUp` after so many seconds, `OutOfMemory`, or a `ProgramError`; `WrongNumber` for a number that can't
-        be.
+        It takes whatever is first of the ways of `solve_cli answer`, on all processors. With `nodes` (1 to 16) and `workers` (1 to 8) several threads
+        search, as `solve_cli solve` does; with `audit` their run is audited, so that None is right whatever the network did. Raises `TimeIsUp` after
+        so many seconds, `OutOfMemory`, or a `ProgramError`; `WrongNumber` for a number that can't be.
         """
         threads = number_in(nodes, "nodes", MOST_NODES) + number_in(workers, "workers", MOST_WORKERS)
         words = ["solve", "-", *threads, *["--audit"] * audit] if threads or audit else ["answer", "-"]
