@@ -23,7 +23,7 @@ from .command_line.ends import run
 from .command_line.words import parser_of
 from .files.cover_files import MAX_COLOURS, MAX_ITEMS, MAX_OCCURRENCES, MAX_OPTIONS, Answer, Fault, Line, Word
 from .files.cover_files import is_comment, lines_of, Problem, read_answer, read_problem, refusal, shown
-from .files.fault_words import answer_fault_words, fault_words, grouped, listed, looks, plural, quoted
+from .files.fault_words import answer_fault_words, fault_words, first_few, grouped, looks, plural, quoted
 from .files.full_names import told_lines
 from .files.whole_files import TooLarge, Unreadable, read_bytes
 from .programs import known_program
@@ -97,7 +97,7 @@ def place_of(fault: Fault) -> str:
 
 
 def fault_line(problem: Problem, fault: Fault, further: list[int]) -> str:
-    again = f" (the same in {plural(len(further), 'more line')}: {listed(further, MANY)})" if further else ""
+    again = f" (the same in {plural(len(further), 'more line')}: {first_few(further, MANY)})" if further else ""
     return f"{place_of(fault)}: {fault.name}: {fault_words(problem, fault)}{again}"
 
 
@@ -137,13 +137,13 @@ def rare_items(problem: Problem, by_item: Places) -> Iterator[str]:
     primary = problem.primary_names()
     missing = [quoted(name) for name in primary if not by_item[name]]
     if missing:
-        yield f"in no option, so there is no cover: primary {plural(len(missing), 'item', False)} {listed(missing, MANY)}"
+        yield f"in no option, so there is no cover: primary {plural(len(missing), 'item', False)} {first_few(missing, MANY)}"
     forced = [f"{quoted(name)} (line {problem.options[by_item[name][0]].line})" for name in primary if len(by_item[name]) == 1]
     if forced:
-        yield f"in one option alone, which every cover has: primary {plural(len(forced), 'item', False)} {listed(forced, MANY)}"
+        yield f"in one option alone, which every cover has: primary {plural(len(forced), 'item', False)} {first_few(forced, MANY)}"
     idle = [quoted(name) for name in problem.names()[problem.primary:] if not by_item[name]]
     if idle:
-        yield f"in no option, and without effect: secondary {plural(len(idle), 'item', False)} {listed(idle, MANY)}"
+        yield f"in no option, and without effect: secondary {plural(len(idle), 'item', False)} {first_few(idle, MANY)}"
 
 
 def forced_clashes(problem: Problem, by_item: Places) -> Iterator[str]:
@@ -158,7 +158,7 @@ def forced_clashes(problem: Problem, by_item: Places) -> Iterator[str]:
         colours = {colour for _, colour in users.values()}
         if len(users) > 1 and (len(colours) > 1 or None in colours):
             each = [f"{quoted(name)} (line {line})" for line, (name, _) in users.items()]
-            yield f"{listed(each, MANY)} are each in one option alone, and these options clash in {quoted(item)}, so there is no cover"
+            yield f"{first_few(each, MANY)} are each in one option alone, and these options clash in {quoted(item)}, so there is no cover"
 
 
 def room_words(problem: Problem, text: bytes) -> Iterator[str]:
@@ -181,7 +181,7 @@ def items_together(by_item: Places) -> Iterator[str]:
             groups.setdefault(tuple(places), []).append(quoted(name))
     together = [(len(places), names) for places, names in groups.items() if len(names) > 1]
     for count, names in together[:MANY]:
-        yield f"always together, in {plural(count, 'option')}: {listed(names, MANY)}"
+        yield f"always together, in {plural(count, 'option')}: {first_few(names, MANY)}"
     if len(together) > MANY:
         yield f"and {len(together) - MANY:,} more groups of items are always together"
 
@@ -194,7 +194,7 @@ def equal_options(problem: Problem) -> Iterator[str]:
     equal = [lines for lines in groups.values() if len(lines) > 1]
     same = "the same items and colours" if problem.colours else "the same items"
     for lines in equal[:MANY]:
-        yield f"{same} in {plural(len(lines), 'option')}: lines {listed(lines, MANY)}"
+        yield f"{same} in {plural(len(lines), 'option')}: lines {first_few(lines, MANY)}"
     if len(equal) > MANY:
         yield f"and {len(equal) - MANY:,} more groups of options name {same}"
 
@@ -214,15 +214,15 @@ def colour_habits(problem: Problem) -> Iterator[str]:
     if not problem.colours:
         return
     by_item = lines_by_colour(problem)
-    mixed = [f"{quoted(name)} (line{'s' * (len(by[None]) > 1)} {listed(by[None], 3)})" for name, by in by_item.items()
+    mixed = [f"{quoted(name)} (line{'s' * (len(by[None]) > 1)} {first_few(by[None], 3)})" for name, by in by_item.items()
              if None in by and len(by) > 1]
     if mixed:
         yield ("in some options with a colour and in others without, which agree with none: secondary "
-               f"{plural(len(mixed), 'item', False)} {listed(mixed, MANY)}")
+               f"{plural(len(mixed), 'item', False)} {first_few(mixed, MANY)}")
     several = {colour for by in by_item.values() for colour, lines in by.items() if len(lines) > 1}
     alone = [quoted(colour) for colour in problem.colours if colour not in several]
     if alone:
-        yield f"given to no item by two options, and so without effect: {plural(len(alone), 'colour', False)} {listed(alone, MANY)}"
+        yield f"given to no item by two options, and so without effect: {plural(len(alone), 'colour', False)} {first_few(alone, MANY)}"
 
 
 def strange_names(problem: Problem) -> Iterator[str]:
@@ -230,16 +230,16 @@ def strange_names(problem: Problem) -> Iterator[str]:
     names = list(problem.items) + list(problem.colours)
     commas = [quoted(name) for name in names if name[-1:] in (b",", b";")]
     if commas:
-        yield f"words are parted by white space, so the comma belongs to the name in {listed(commas, MANY)}"
+        yield f"words are parted by white space, so the comma belongs to the name in {first_few(commas, MANY)}"
     unseen = [quoted(name) for name in names if shown(name) != name.decode("utf-8", "replace")]
     if unseen:
-        yield f"characters that can't be seen stand in the {plural(len(unseen), 'name', False)} {listed(unseen, MANY)}"
+        yield f"characters that can't be seen stand in the {plural(len(unseen), 'name', False)} {first_few(unseen, MANY)}"
     alike: dict[str, list[str]] = {}
     for name in dict.fromkeys(names):
         alike.setdefault(looks(name), []).append(ascii(shown(name)))
     for some in alike.values():
         if len(some) > 1:
-            yield f"names that look alike and are different: {listed(some, MANY)}"
+            yield f"names that look alike and are different: {first_few(some, MANY)}"
 
 
 def explain_good(problem: Problem, text: bytes) -> Iterator[str]:
@@ -247,7 +247,7 @@ def explain_good(problem: Problem, text: bytes) -> Iterator[str]:
     yield counts(problem)
     yield from near_limits(problem)
     if problem.ignored:
-        lines = listed([option.line for option in problem.ignored], MANY)
+        lines = first_few([option.line for option in problem.ignored], MANY)
         yield f"{plural(len(problem.ignored), 'option')} ignored for naming no primary item: line{'s' * (len(problem.ignored) > 1)} {lines}"
     yield from rare_items(problem, by_item)
     yield from forced_clashes(problem, by_item)
@@ -272,14 +272,14 @@ def explain_cover(problem: Problem, answer: Answer) -> Iterator[str]:
     by_item = problem.options_by_item()
     for name in answer.uncovered(problem):
         lines = [problem.options[place].line for place in by_item[name]]
-        which = f"options that name it: line{'s' * (len(lines) > 1)} {listed(lines, MANY)} of the file" if lines else "no option names it"
+        which = f"options that name it: line{'s' * (len(lines) > 1)} {first_few(lines, MANY)} of the file" if lines else "no option names it"
         yield f"uncovered: {quoted(name)} ({which})"
     for name, users in answer.covered_twice(problem):
         chosen = [answer.chosen[k] for k in users]
         colours = colour_words(problem, name, [place for _, place in chosen])
         options = [f"line {words[0].line} of the answer (line {problem.options[place].line} of the file){colour}"
                    for (words, place), colour in zip(chosen, colours)]
-        yield f"covered {'twice' if len(users) == 2 else f'{len(users)} times'}: {quoted(name)} by {listed(options, MANY)}"
+        yield f"covered {'twice' if len(users) == 2 else f'{len(users)} times'}: {quoted(name)} by {first_few(options, MANY)}"
 
 
 def verdict(problem: Problem, answer: Answer) -> Optional[str]:

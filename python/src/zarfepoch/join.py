@@ -57,7 +57,7 @@ def wrong_in(answer: Answer, tree: Tree, prefix: Prefix) -> Optional[str]:
     return "wrong: CoveredTwice " + shown(twice[0][0]) if twice else None
 
 
-def answered(number: int, text: bytes, tree: Tree, prefix: Prefix) -> Part:
+def part_of_answer(number: int, text: bytes, tree: Tree, prefix: Prefix) -> Part:
     """What the answer of a part says."""
     lines = lines_of(text)
     said = [[word.text for word in words] for words in lines]
@@ -78,7 +78,7 @@ def read_part(folder: str, number: int, tree: Tree, prefix: Prefix) -> Part:
     if not os.path.lexists(path):
         return Part(number)
     try:
-        part = answered(number, read_bytes(path), tree, prefix)
+        part = part_of_answer(number, read_bytes(path), tree, prefix)
     except Unreadable as why:
         return Part(number, fault=str(why))
     return part._replace(fault=f"{path} is {part.fault}") if part.fault else part

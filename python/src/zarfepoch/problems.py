@@ -15,7 +15,7 @@ from .files import cover_files
 from .files.cover_files import MAX_COLOURS, MAX_ITEMS, MAX_NAME, MAX_OCCURRENCES, MAX_OPTIONS
 from .files.fault_words import fault_words
 from .files.whole_files import put_bytes
-from .programs import find_program, own_words, tied
+from .programs import dying_with_parent, find_program, own_words
 from .reasons import cover_reason
 from .reasons.even_room import even_room
 from .search.all_covers import Covers, Run
@@ -198,7 +198,7 @@ class Problem:
         limit, program = checked_seconds(seconds), find_program()
         tree = Tree(cover_files.read_problem(self._numbered_text(self._numbered_lines())))
         kept = [place for place, option in enumerate(self) if self._is_kept(option)]
-        found = Covers(tree, lambda prefix: Asked(program, tree, prefix)).each(limit)
+        found = Covers(tree, lambda prefix: RunningQuestion(program, tree, prefix)).each(limit)
         with contextlib.closing(found):
             yield from (sorted(kept[place] for place in cover) for cover in found)
 
@@ -280,7 +280,7 @@ class Problem:
         # (where the system can't end a program whose Python was killed, it ends by itself, a second after it should have)
         own = ["--seconds", str(math.ceil(limit) + 1)] if limit is not None and limit < MOST_SECONDS and words[0] != "why" else []
         try:
-            ran = subprocess.run(tied([find_program(), *words, *own]), input=text, capture_output=True, timeout=limit)
+            ran = subprocess.run(dying_with_parent([find_program(), *words, *own]), input=text, capture_output=True, timeout=limit)
         except subprocess.TimeoutExpired:
             raise TimeIsUp(f"no answer after {seconds} seconds") from None
         except OSError as why:
@@ -296,13 +296,13 @@ class Problem:
         read = cover_files.read_problem(text.encode("utf-8", "surrogateescape") if isinstance(text, str) else text)
         if read.faults:
             first = read.faults[0]
-            word = f" '{named(first.word.text)}'" if first.word else ""
+            word = f" '{name_text(first.word.text)}'" if first.word else ""
             raise FAULT_KINDS.get(first.name, ProblemError)(
                 f"the file is refused: {cover_files.refusal(read.faults)}{word}: {fault_words(read, first)}", line=first.line,
-                item=first.word and named(first.word.text))
-        names = [named(name) for name in read.items]
+                item=first.word and name_text(first.word.text))
+        names = [name_text(name) for name in read.items]
         options = sorted([*read.options, *read.ignored], key=lambda option: option.line)
-        words = ([named(name) if colour is None else Colored(named(name), named(colour)) for name, colour in zip(option.names, option.colours)]
+        words = ([name_text(name) if colour is None else Colored(name_text(name), name_text(colour)) for name, colour in zip(option.names, option.colours)]
                  for option in options)
         return cls(names[:read.primary], names[read.primary:], words)
 
@@ -328,7 +328,7 @@ class Problem:
         put_bytes(os.fspath(path), self.text())
 
 
-class Asked:
+class RunningQuestion:
     """What the program answers about a prefix of a problem's search tree, while Python goes on."""
 
     def __init__(self, program: str, tree: Tree, prefix: Prefix) -> None:
@@ -366,7 +366,7 @@ def option_in(option: Iterable[Word], place: int) -> tuple[Word, ...]:
     return tuple(option)
 
 
-def named(name: bytes) -> str:
+def name_text(name: bytes) -> str:
     """A name of a file as a text, from which the same bytes come again."""
     return name.decode("utf-8", "surrogateescape")
 

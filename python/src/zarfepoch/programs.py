@@ -25,7 +25,7 @@ def known_program() -> Optional[str]:
     return next((os.path.abspath(path) for path in places if path and is_program(path)), None)
 
 
-def tied(words: list[str]) -> list[str]:
+def dying_with_parent(words: list[str]) -> list[str]:
     """The words of a command that ends with the process that starts it, however that ends; where the system has no means for it, as they are."""
     setpriv = shutil.which("setpriv")
     return [setpriv, "--pdeathsig", "KILL", "--", *words] if setpriv else words
@@ -51,7 +51,7 @@ def find_program() -> str:
     return path
 
 
-class Answered(NamedTuple):
+class ProgramAnswer(NamedTuple):
     """The program's exit status, what it wrote, and what it said on standard error.
 
     A status alone is no answer: with 1, that of `none`, much ends that fails before it has begun.
@@ -80,15 +80,15 @@ class Answered(NamedTuple):
         return f"the program {program} ended with status {self.status}, and wrote no answer" + (f": {self.why}" if self.why else "")
 
 
-def asked(program: str, words: list[str], text: bytes) -> Answered:
+def run_program(program: str, words: list[str], text: bytes) -> ProgramAnswer:
     """What the program answers to a problem on its standard input; `ProgramError` where it can't be run."""
     try:
         ran = subprocess.run([program, *words], input=text, capture_output=True)
     except OSError as why:
         raise ProgramError(f"the program {program} can't be run: {why.strerror}") from None
-    return Answered(ran.returncode, ran.stdout, ran.stderr.decode(errors="replace").strip())
+    return ProgramAnswer(ran.returncode, ran.stdout, ran.stderr.decode(errors="replace").strip())
 
 
-def answered(program: str, text: bytes, seconds: Optional[float] = None) -> Answered:
+def answer_of(program: str, text: bytes, seconds: Optional[float] = None) -> ProgramAnswer:
     """The answer to a problem, within so many seconds if they are told."""
-    return asked(program, ["answer", "-", *(["--seconds", str(max(1, round(seconds)))] if seconds else [])], text)
+    return run_program(program, ["answer", "-", *(["--seconds", str(max(1, round(seconds)))] if seconds else [])], text)

@@ -54,10 +54,10 @@ from .pictures.base import Kind
 from .pictures.kinds import in_words, picture_of
 from .pictures.plan_files import add_tables, with_plans, write_plans
 from .pictures.svg_paper import Paper
-from .problems import Asked
-from .programs import answered, Answered, find_program, own_words
+from .problems import RunningQuestion
+from .programs import answer_of, find_program, own_words, ProgramAnswer
 from .puzzles.kinds import kinds_listed, kinds_of, problems_of
-from .puzzles.mistyped import SECONDS as CHANGE_SECONDS, told_changes
+from .puzzles.mistyped import SECONDS as CHANGE_SECONDS, change_lines
 from .reasons.even_room import any_reason
 from .search.all_covers import Covers
 from .search.other_covers import free_name, others_of
@@ -107,7 +107,7 @@ def positive(text: str) -> float:
     return number
 
 
-def asked_of_school(program: str, timetable: Timetable, given: Namespace) -> Answered:
+def answer_of_school(program: str, timetable: Timetable, given: Namespace) -> ProgramAnswer:
     """The program's answer to a timetable: for a third of the time, or two where a plan is kept, or by a part of the school that has none, or for the rest
     of the time."""
     began, limit = time.monotonic(), given.seconds or 3 * TRY_SECONDS
@@ -117,8 +117,8 @@ def asked_of_school(program: str, timetable: Timetable, given: Namespace) -> Ans
         core = core_of(program, timetable.school, limit - (time.monotonic() - began) if found else limit / 3, found is not None)
         if core:
             print("There is no timetable. " + "\n".join(core_words(timetable.school, core)))
-            return Answered(1, b"none\n", "")
-    answer = found or answered(program, timetable.text(), given.seconds and max(1.0, given.seconds - (time.monotonic() - began)))
+            return ProgramAnswer(1, b"none\n", "")
+    answer = found or answer_of(program, timetable.text(), given.seconds and max(1.0, given.seconds - (time.monotonic() - began)))
     if answer.is_none:
         print("There is no timetable.")
     return answer
@@ -147,10 +147,10 @@ def told_waiting(so_far: Callable[[], str] = str) -> Iterator[None]:
         complain(f"this took {time.monotonic() - began:.0f} seconds")
 
 
-def asked(program: str, puzzle: Puzzle, given: Namespace) -> Answered:
+def answer_or_stop(program: str, puzzle: Puzzle, given: Namespace) -> ProgramAnswer:
     """The program's answer; ends the command where there is none in time, or the program fails."""
     with told_waiting():
-        found = asked_of_school(program, puzzle, given) if isinstance(puzzle, Timetable) else answered(program, puzzle.text(), given.seconds)
+        found = answer_of_school(program, puzzle, given) if isinstance(puzzle, Timetable) else answer_of(program, puzzle.text(), given.seconds)
     if found.is_open:
         stop(f"no answer: {own_words(found.why)}" if found.why else "no answer", NO_ANSWER)
     if not (found.is_cover or found.is_none):
@@ -167,7 +167,7 @@ def only_words(program: str, problem: Problem, answer: bytes, seconds: Optional[
     if too_large:
         return f"Whether it is the only solution can't be asked: that problem would have {too_large}."
     limit = seconds or OTHER_SECONDS
-    found = answered(program, text, limit)
+    found = answer_of(program, text, limit)
     if found.is_cover:
         return "There is another solution; --all draws each."
     if found.is_none:
@@ -224,7 +224,7 @@ def tell_unwritten(given: Namespace, hint: str = "") -> None:
 def tell_changes(program: str, changes: list[Change], seconds: Optional[float]) -> bool:
     """Says after which small changes of the puzzle there is a solution: one of these may be what is mistyped. Whether anything is said."""
     sys.stdout.flush()
-    lines = told_changes(program, changes, seconds or CHANGE_SECONDS)
+    lines = change_lines(program, changes, seconds or CHANGE_SECONDS)
     print("".join(line + "\n" for line in lines), end="")
     return bool(lines)
 
@@ -236,9 +236,9 @@ def solved(program: str, puzzle: Puzzle, given: Namespace) -> int:
         # (a plan of nobody is refused before the search)
         with_plans(picture_of(problem, [], False), given.plan)
     if getattr(given, "all", False) or getattr(given, "count", False):
-        return listed(program, puzzle, problem, given)
+        return all_solutions(program, puzzle, problem, given)
     began = time.monotonic()
-    found = asked(program, puzzle, given)
+    found = answer_or_stop(program, puzzle, given)
     if found.is_none:
         if isinstance(puzzle, Timetable):
             tell_unwritten(given)
@@ -256,12 +256,12 @@ def solved(program: str, puzzle: Puzzle, given: Namespace) -> int:
     return 0
 
 
-def listed(program: str, puzzle: Puzzle, problem: Problem, given: Namespace) -> int:
+def all_solutions(program: str, puzzle: Puzzle, problem: Problem, given: Namespace) -> int:
     """Draws or counts all solutions of a puzzle; the exit status."""
     if given.out:
         stop("--out draws one solution, so it doesn't go with --all and --count")
     tree, count, began = Tree(problem), 0, time.monotonic()
-    found = Covers(tree, lambda prefix: Asked(program, tree, prefix)).each(given.seconds)
+    found = Covers(tree, lambda prefix: RunningQuestion(program, tree, prefix)).each(given.seconds)
     try:
         # (each solution that is drawn says that the search goes on)
         with contextlib.closing(found), contextlib.nullcontext() if given.all else told_waiting(lambda: f": {plural(count, 'solution')} so far"):

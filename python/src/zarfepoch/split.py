@@ -52,7 +52,7 @@ def write_all(folder: str, files: Iterable[tuple[str, bytes]]) -> None:
         shutil.rmtree(made, ignore_errors=True)
 
 
-def told(found: Split, folder: str) -> str:
+def split_line(found: Split, folder: str) -> str:
     """What was done, in a line."""
     join = as_called(f"zarfepoch-join {shlex.quote(folder)}")
     if found.cover:
@@ -77,7 +77,7 @@ def main() -> None:
         write_all(given.into, itertools.chain([(WHOLE, text), (LIST, list_text(found, given.parts))], parts))
     except OSError as why:
         stop(f"{given.into} can't be written: {why.strerror}", 3)
-    print(told(found, given.into))
+    print(split_line(found, given.into))
 
 
 if __name__ == "__main__":

@@ -28,7 +28,7 @@ from typing import Callable, Optional
 from .command_line.ends import complain, run, stop
 from .command_line.words import parser_of
 from .files.cover_files import Problem, read_problem, refusal, shown
-from .files.fault_words import listed, plural, quoted
+from .files.fault_words import first_few, plural, quoted
 from .files.full_names import told_lines
 from .files.whole_files import Unreadable, read_bytes, write_out
 from .pictures.kinds import in_words
@@ -116,7 +116,7 @@ def explain(problem: Problem, kept: list[bytes], asked: int) -> Iterator[str]:
     yield f"{are} together ({searches}):"
     for name in kept:
         lines = [problem.options[place].line for place in by_item[name]]
-        where = f"in {plural(len(lines), 'option')}, line{'s' * (len(lines) != 1)} {listed(lines, SHOWN)}" if lines else "in no option"
+        where = f"in {plural(len(lines), 'option')}, line{'s' * (len(lines) != 1)} {first_few(lines, SHOWN)}" if lines else "in no option"
         yield f"  {shown(name)}: {where}" if named is shown else f"  {named(name)}, in {plural(len(lines), 'way')}"
     yield from reasons(problem, kept, named)
 

@@ -33,7 +33,7 @@ def quoted(name: bytes) -> str:
     return f"'{text}'" if len(text) <= 60 else f"'{text[:40]}..{text[-10:]}' ({len(name):,} bytes)"
 
 
-def listed(things: Sequence[object], most: int) -> str:
+def first_few(things: Sequence[object], most: int) -> str:
     """The first of some things, and how many more there are."""
     told = [str(thing) for thing in things[:most]]
     if len(things) > most:
@@ -67,7 +67,7 @@ def instead(names: list[bytes], name: bytes) -> str:
     if near:
         return "nearest: " + " or ".join(f"'{text}'" for text in near)
     if len(names) <= FEW:
-        return "the items are " + listed([quoted(there) for there in names], FEW)
+        return "the items are " + first_few([quoted(there) for there in names], FEW)
     return "no item has a name like it"
 
 
@@ -239,17 +239,17 @@ def option_words(problem: Problem, answer: Answer, words: Line) -> str:
     if same:
         earlier = [words[0].line for words, place in answer.chosen if problem.options[place].words == line.words]
         return (f"the file has this option {'once' if len(same) == 1 else f'{len(same)} times'} (line{'s' * (len(same) > 1)} "
-                f"{listed(same, FEW)}), and the answer has it already at line{'s' * (len(earlier) > 1)} {listed(earlier, FEW)}")
+                f"{first_few(same, FEW)}), and the answer has it already at line{'s' * (len(earlier) > 1)} {first_few(earlier, FEW)}")
     if lines_where(problem.ignored, lambda option: set(option.words) == set(line.words)):
         return "the file's option with these names is ignored, since it names no primary item; no answer has it"
     words_of_line = set(line.words)  # (those of an option are all different)
     turned = [option for option in problem.options if len(option.words) == len(line.words) and words_of_line.issuperset(option.words)]
     if turned:
-        return f"names stand in the order of the file: write '{told(turned[0])}' (line {turned[0].line})"
+        return f"names stand in the order of the file: write '{option_text(turned[0])}' (line {turned[0].line})"
     return near_option_words(problem, line)
 
 
-def told(option: Option) -> str:
+def option_text(option: Option) -> str:
     return " ".join(map(shown, option.words))
 
 
@@ -263,7 +263,7 @@ def near_option_words(problem: Problem, line: Option) -> str:
     nearest_options = (option for option, count in zip(problem.options, others) if count == fewest)
     near = min(nearest_options, key=lambda option: len(words.symmetric_difference(option.words)))
     what = "these names in these colours" if near.names == line.names else "these names"
-    return f"no option of the file has {what}; nearest: '{told(near)}' (line {near.line})"
+    return f"no option of the file has {what}; nearest: '{option_text(near)}' (line {near.line})"
 
 
 def answer_fault_words(problem: Problem, answer: Answer, fault: Fault) -> str:

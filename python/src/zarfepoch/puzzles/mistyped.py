@@ -12,7 +12,7 @@ from typing import Optional
 
 from ..files.cover_files import read_audited, read_problem
 from ..files.fault_words import plural
-from ..programs import answered
+from ..programs import answer_of
 from ..search.other_covers import free_name, others_of
 from ..texts.limits import Refused
 from ..texts.puzzles import Change, PlainlyNone, Puzzle
@@ -41,7 +41,7 @@ def count_of(program: str, change: Change, seconds: float) -> Optional[int]:
         puzzle = changed(change)
     except (PlainlyNone, NoSolution):
         return 0
-    found = answered(program, puzzle.text(), seconds) if puzzle else None
+    found = answer_of(program, puzzle.text(), seconds) if puzzle else None
     if not puzzle or not found or not found.is_cover:
         return 0 if found and found.is_none else None
     problem = read_problem(puzzle.text())
@@ -49,11 +49,11 @@ def count_of(program: str, change: Change, seconds: float) -> Optional[int]:
     text, too_large = others_of(problem, [chosen], free_name(problem, b"other"))
     if too_large:
         return None
-    other = answered(program, text, seconds)
+    other = answer_of(program, text, seconds)
     return 1 if other.is_none else 2 if other.is_cover else None
 
 
-def listed(words: Sequence[str]) -> str:
+def first_words(words: Sequence[str]) -> str:
     """The first of some changes, and how many more there are."""
     more = [f"with one of {len(words) - MOST} more changes"] if len(words) > MOST else []
     return ", or ".join([*words[:MOST], *more])
@@ -62,12 +62,12 @@ def listed(words: Sequence[str]) -> str:
 def solution_words(only: Sequence[str], several: Sequence[str]) -> list[str]:
     """What is told of the changes after which there is one solution, and of those after which there are several."""
     if not only:
-        return [f"There is a solution {listed(several)}."] if several else []
+        return [f"There is a solution {first_words(several)}."] if several else []
     others = ["With one other change there are several."] if len(several) == 1 else [f"With one of {len(several)} other changes there are several."]
-    return [f"There is exactly one solution {listed(only)}.", *(others if several else [])]
+    return [f"There is exactly one solution {first_words(only)}.", *(others if several else [])]
 
 
-def told_changes(program: str, changes: Sequence[Change], seconds: float = SECONDS) -> list[str]:
+def change_lines(program: str, changes: Sequence[Change], seconds: float = SECONDS) -> list[str]:
     """Which of these changes make a puzzle with a solution, in sentences; nothing where there are none to try."""
     until, counts = time.monotonic() + seconds, list[Optional[int]]()
     for change in changes:

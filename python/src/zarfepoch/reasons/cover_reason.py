@@ -18,7 +18,7 @@ from typing import Optional
 
 from ..errors import TimeIsUp
 from ..files.cover_files import Option, Problem, shown
-from ..files.fault_words import listed, plural, quoted
+from ..files.fault_words import first_few, plural, quoted
 
 # numbers by the names of their items; what items are called
 Amounts = dict[bytes, int]
@@ -179,7 +179,7 @@ def added(amounts: Amounts, names: Iterable[bytes]) -> int:
 
 
 def names_line(names: Iterable[bytes], named: Named) -> str:
-    return f"  {listed([named(name) for name in names], SHOWN)}"
+    return f"  {first_few([named(name) for name in names], SHOWN)}"
 
 
 # ---- cases
@@ -194,7 +194,7 @@ def case_words(reason: Reason, problem: Problem, named: Named) -> Iterator[str]:
     many = len(reason.cases)
     yield (f"each cover has one of the {many:,} options of {called}, and beside none of them there is one:" if many > 1 else
            f"each cover has the only option of {called}, and beside it there is none:")
-    yield f"  {listed([named(name) for name in problem.options[number].names], SHOWN)}"
+    yield f"  {first_few([named(name) for name in problem.options[number].names], SHOWN)}"
     yield from (f"    {line}" for line in case.words(beside(problem, number), named))
     if many > 1:
         yield "  each of the others has such a reason, too"
@@ -207,7 +207,7 @@ def clique_words(reason: Reason, problem: Problem, named: Named) -> Iterator[str
     primary = set(problem.primary_names())
     for name, numbers in itertools.islice(reason.cliques.items(), SHOWN):
         owners = dict.fromkeys(next(own for own in problem.options[number].names if own in primary) for number in numbers)
-        yield f"  {shown(name)} is {plural(len(numbers), 'option')}, each two of which clash, of {listed([named(own) for own in owners], SHOWN)}"
+        yield f"  {shown(name)} is {plural(len(numbers), 'option')}, each two of which clash, of {first_few([named(own) for own in owners], SHOWN)}"
     if len(reason.cliques) > SHOWN:
         yield f"  and {len(reason.cliques) - SHOWN:,} more are such, too"
 
@@ -233,7 +233,7 @@ def room_words(reason: Reason, named: Named) -> Iterator[str]:
         for amount in sorted(set(amounts.values())):
             names = [name for name, own in amounts.items() if own == amount]
             many = "each of these" if len(names) > 1 else "this one"
-            yield f"  {many} {what} {amount if amount != 1 else 'one'}: {listed([named(name) for name in names], SHOWN)}"
+            yield f"  {many} {what} {amount if amount != 1 else 'one'}: {first_few([named(name) for name in names], SHOWN)}"
 
 
 # ---- weights
@@ -259,7 +259,7 @@ def weight_words(reason: Reason, problem: Problem, named: Named) -> Iterator[str
         zero = "0" if exact else f"a multiple of {reason.modulus}"
         yield f"with these weights each option weighs {zero}, and all primary items together weigh {sum(weights.values()):,}:"
         for weight, group in groups.items():
-            yield f"  {weight:+d} each: {listed([named(name) for name in group], SHOWN)}"
+            yield f"  {weight:+d} each: {first_few([named(name) for name in group], SHOWN)}"
 
 
 def one_group(modulus: int, named: Named, group: tuple[int, list[bytes]]) -> Iterator[str]:

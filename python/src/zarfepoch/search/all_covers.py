@@ -15,7 +15,7 @@ from collections.abc import Generator
 from typing import Callable, Optional, Protocol
 
 from ..errors import TimeIsUp
-from ..programs import tied
+from ..programs import dying_with_parent
 from .parts import Prefix, Tree
 
 # the options of a cover, by their places
@@ -41,7 +41,7 @@ class Run:
     """A run of a program that reads a text and goes on beside Python."""
 
     def __init__(self, words: list[str], text: bytes) -> None:
-        self.process = subprocess.Popen(tied(words), stdin=subprocess.PIPE, stdout=subprocess.PIPE, stderr=subprocess.PIPE)
+        self.process = subprocess.Popen(dying_with_parent(words), stdin=subprocess.PIPE, stdout=subprocess.PIPE, stderr=subprocess.PIPE)
         self.output, self.errors = b"", b""
         self.thread = threading.Thread(target=self.read, args=(text,), daemon=True)
         self.thread.start()

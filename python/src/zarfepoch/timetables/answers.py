@@ -7,7 +7,7 @@ import time
 from collections.abc import Iterator
 from typing import Optional
 
-from ..programs import answered, Answered, asked
+from ..programs import answer_of, ProgramAnswer, run_program
 from .problem import Timetable
 
 # a search in which some lessons may move gets so many visits before others may
@@ -18,9 +18,9 @@ TRY_SECONDS = 20.0
 CHOICES, SHARE = 30, 1 / 20
 
 
-def shortly(program: str, timetable: Timetable) -> Answered:
+def shortly(program: str, timetable: Timetable) -> ProgramAnswer:
     """What a short search answers."""
-    return asked(program, ["alone", "-", "--fuel", str(TRY_VISITS)], timetable.text())
+    return run_program(program, ["alone", "-", "--fuel", str(TRY_VISITS)], timetable.text())
 
 
 def near_first(timetable: Timetable, released: set[str]) -> list[list[str]]:
@@ -50,7 +50,7 @@ def movable(timetable: Timetable, draw: random.Random, seconds: float) -> Iterat
             yield unfit | set(order[:size])
 
 
-def fewer_moved(program: str, timetable: Timetable, released: set[str], found: Answered, limit: float) -> Answered:
+def fewer_moved(program: str, timetable: Timetable, released: set[str], found: ProgramAnswer, limit: float) -> ProgramAnswer:
     """An answer in which fewer lessons move than these, which have moved in this one: each of them is tried in its places, one after the other."""
     for name in sorted(released - timetable.unfit()):
         if time.monotonic() < limit:
@@ -60,7 +60,7 @@ def fewer_moved(program: str, timetable: Timetable, released: set[str], found: A
     return found
 
 
-def planned(program: str, timetable: Timetable, is_kept: bool, seconds: float) -> Optional[Answered]:
+def planned(program: str, timetable: Timetable, is_kept: bool, seconds: float) -> Optional[ProgramAnswer]:
     """The answer to the problem of a timetable, where it is found in so many seconds, or how the program failed. Where a plan is kept, short searches
     come first, in which ever more of its lessons may move; their `none` says nothing of the problem as it is."""
     limit = time.monotonic() + seconds
@@ -71,5 +71,5 @@ def planned(program: str, timetable: Timetable, is_kept: bool, seconds: float) -
             return fewer_moved(program, timetable, released, found, limit)
         if not (found.is_none or found.is_open):
             return found
-    found = answered(program, timetable.text(), max(1.0, limit - time.monotonic()))
+    found = answer_of(program, timetable.text(), max(1.0, limit - time.monotonic()))
     return None if found.is_open else found

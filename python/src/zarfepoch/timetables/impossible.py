@@ -14,7 +14,7 @@ from collections.abc import Iterator, Sequence
 from dataclasses import replace
 from typing import NamedTuple, Optional
 
-from ..programs import answered
+from ..programs import answer_of
 from .problem import timetables
 from .rules import rule_words, School
 from .steps import named_lesson
@@ -63,7 +63,7 @@ class Questions:
                 found = timetables(some_of(self.school, lessons, without))
         except SystemExit as ended:
             return ended.code == 1
-        return any(answered(self.program, puzzle.text(), QUESTION).is_none for puzzle in found)
+        return any(answer_of(self.program, puzzle.text(), QUESTION).is_none for puzzle in found)
 
 
 def groups_of(school: School) -> Iterator[tuple[str, list[Lesson]]]:

@@ -107,7 +107,7 @@ def read_table(path: str, wanted: tuple[str, ...], needed: tuple[str, ...], alia
     for number, row in lines[1:]:
         want_parted(path, number, row, separator_of(text))
         if len(row) > len(columns) and any(map(str.strip, row[len(columns):])):
-            refuse(path, number, f"it has {len(row)} columns, and the head {len(columns)}: a cell with a {named(separator_of(text))} in it wants "
+            refuse(path, number, f"it has {len(row)} columns, and the head {len(columns)}: a cell with a {separator_word(separator_of(text))} in it wants "
                    "quotation marks round it, and several rooms or periods may have blanks between")
         # (a cell may have line ends and blanks that aren't seen)
         yield number, dict(zip(columns, [" ".join(cell.split()) for cell in row] + [""] * len(columns)))
@@ -117,10 +117,10 @@ def want_parted(path: str, line: int, row: list[str], separator: str) -> None:
     """Refuses a row whose columns are parted by something else than those of the head."""
     other = next((mark for mark in ",;\t" if mark in row[0]), None)
     if other and not any(map(str.strip, row[1:])):
-        refuse(path, line, f"a {named(other)} parts its columns, and a {named(separator)} those of the head")
+        refuse(path, line, f"a {separator_word(other)} parts its columns, and a {separator_word(separator)} those of the head")
 
 
-def named(separator: str) -> str:
+def separator_word(separator: str) -> str:
     return {",": "comma", ";": "semicolon"}.get(separator, "tab")
 
 
