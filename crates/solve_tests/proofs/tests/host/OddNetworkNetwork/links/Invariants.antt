@@ -1,5 +1,5 @@
 use Rattle.std.proofs.Common.{◌≡◌, length, vec_len}
-use Rattle.solve_tests.proofs.tests.machine.OddNetworkNetwork.links.Given as goal
+use Rattle.solve_tests.proofs.tests.host.OddNetworkNetwork.links.Given as goal
 
 abbrev pub invariant-loop-inner : goal.invariant-loop-inner
 invariant-loop-inner g l = vec_len l.all ≡ length l.yielded
