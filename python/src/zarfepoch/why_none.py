@@ -14,9 +14,9 @@ those that are left at a time, then one by one. What is left can't be covered, a
 question isn't answered within N visits, 1,000,000 where no number is given, its items stay, so there may be more of them than are
 needed.) It prints these items with the options that name them, and why, where that is plain: two items any two options of which clash.
 
-It wants the program: scripts/build.sh builds it. The exit status is 0 where there is no cover and a reason or items
-were found, 1 where there is a cover or the search wasn't finished, 2 for a mistake on the command line or where the program can't be
-run, 3 for a file that can't be read or is refused, or where a picture or the standard output can't be written.
+It wants the program, and says how to build it where there is none. The exit status is 0 where there is no cover and a reason or items were found,
+1 where there is a cover or the search wasn't finished, 2 for a mistake on the command line or where the program can't be run, 3 for a file that can't
+be read or is refused, or where a picture or the standard output can't be written.
 """
 from __future__ import annotations
 
