@@ -15,7 +15,8 @@ use std::alloc::{AllocError, Global};
 /// down to what is below the unit, a sort of the serials found, and two passes through them, however many other units
 /// there are.
 ///
-/// It is `Descendants::below` and `Descendants::abort` in one. Ledgers call these two, as they abort below several units in one event.
+/// It is `Descendants::below` and `Descendants::abort` in one. Ledgers call these two, as they abort below several
+/// units in one event.
 pub fn abort_below(
     alloc: Global,
     table: &mut Table,

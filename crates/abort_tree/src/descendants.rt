@@ -37,8 +37,8 @@ impl Model for Descendants {
 impl Descendants {
     /// Finds what is below the units: their children, and what is below these. The only error is out of memory.
     ///
-    /// It costs a look for each unit and for each own child below them, and a sort of their serials, however many others
-    /// there are. What is below two of the units is looked at twice.
+    /// It costs a look for each unit and for each own child below them, and a sort of their serials, however many
+    /// others there are. What is below two of the units is looked at twice.
     pub fn below(alloc: Global, table: &Table, units: &[Unit]) -> Result<Descendants, AllocError>
         ensures { IfOk result (MarksBelow (is_among units.now) table.now.own) }
     {
@@ -95,8 +95,8 @@ fn children_of(alloc: Global, table: &Table, units: &[Unit]) -> Result<Vec<u32>,
     Ok(serials)
 }
 
-/// Appends what is below the children of some units, level by level. A parent was made before its children, so there are
-/// no more levels than children.
+/// Appends what is below the children of some units, level by level. A parent was made before its children, so there
+/// are no more levels than children.
 fn push_below(table: &Table, serials: &mut Vec<u32>) -> Result<(), AllocError>
     ensures { OnOk result (Completes table.now.own serials.old.items serials.new.items) }
 {

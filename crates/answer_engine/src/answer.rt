@@ -36,7 +36,8 @@ pub struct Task<'a, R: Threads + Wait + Clock + Sync> {
     pub alloc: Global,
     /// How long it may last; as long as it takes where there is none.
     pub time: Option<TimeLimit>,
-    /// How many threads search and learn: two, and what is more works for a run in memory. The search for a reason has one more.
+    /// How many threads search and learn: two, and what is more works for a run in memory. The search for a reason has
+    /// one more.
     pub threads: u64,
     /// Whether what the answer rests on is written behind it.
     pub reason: bool,
@@ -50,8 +51,8 @@ pub(crate) struct Found {
     pub(crate) ran: Option<Won>,
 }
 
-/// An answer of a lane that has one; none where the search was stopped before any had. The only error is out of memory, where the search ran out of
-/// it, and no other lane has an answer. (The problem is there for the contract alone.)
+/// An answer of a lane that has one; none where the search was stopped before any had. The only error is out of memory,
+/// where the search ran out of it, and no other lane has an answer. (The problem is there for the contract alone.)
 pub(crate) fn first_of(_problem: &Problem, found: Found) -> Result<Option<Won>, AllocError>
     requires searched { IfOk found.searched (λ won. IfSome won (IsWonOf _problem.now)) }
     requires learned { IfOk found.learned (λ won. IfSome won (IsWonOf _problem.now)) }
@@ -84,7 +85,8 @@ fn lane_watch<'a, 'b, R: Threads + Wait + Clock + Sync>(
     }
 }
 
-/// Lets a reason be looked for, workers run, if there are threads for them, and the search go on, until the race is over.
+/// Lets a reason be looked for, workers run, if there are threads for them, and the search go on, until the race is
+/// over.
 fn run_and_search<V: EndWatch, R: Threads + Wait + Clock + Sync>(
     task: &Task<'_, R>,
     problem: &Problem,
@@ -137,7 +139,8 @@ fn raced<V: EndWatch, R: Threads + Wait + Clock + Sync>(
     )
 }
 
-/// Returns an answer; none only where the time is limited, and over. The watch hears what found it. The only error is out of memory.
+/// Returns an answer; none only where the time is limited, and over. The watch hears what found it. The only error is
+/// out of memory.
 fn decided<V: EndWatch, R: Threads + Wait + Clock + Sync>(
     task: &Task<'_, R>,
     problem: &Problem,
@@ -154,8 +157,8 @@ fn decided<V: EndWatch, R: Threads + Wait + Clock + Sync>(
     settled(task, problem, watch, found)
 }
 
-/// Returns what the lanes found, or else the answer of a search alone, unless the time is limited. The watch hears what the answer rests on, but no
-/// step of that search. The only error is out of memory.
+/// Returns what the lanes found, or else the answer of a search alone, unless the time is limited. The watch hears what
+/// the answer rests on, but no step of that search. The only error is out of memory.
 pub(crate) fn settled<V: EndWatch, R: Threads + Wait + Clock + Sync>(
     task: &Task<'_, R>,
     problem: &Problem,
@@ -214,16 +217,18 @@ fn write_decided<V: EndWatch, W: Sink, R: Threads + Wait + Clock + Sync>(
     }
 }
 
-/// Reads a problem to its end, and writes an exact cover of it, with the options in the order of the file, or `none`, whichever of three
-/// lanes finds it first: a search that keeps states; a learner, which begins a tenth of a second later; and a reason, after a hundredth of a second, or
-/// a tenth where one thread may work, and then, where more than two may, the workers of a run in memory. Where the time is
-/// limited it may write `no answer`. If that is asked for, what the answer rests on is written behind it. How far the search has come, and
-/// which lane was first, goes to the log.
+/// Reads a problem to its end, and writes an exact cover of it, with the options in the order of the file, or `none`,
+/// whichever of three lanes finds it first: a search that keeps states; a learner, which begins a tenth of a second
+/// later; and a reason, after a hundredth of a second, or a tenth where one thread may work, and then, where more than
+/// two may, the workers of a run in memory. Where the time is limited it may write `no answer`. If that is asked for,
+/// what the answer rests on is written behind it. How far the search has come, and which lane was first, goes to the
+/// log.
 ///
 /// # Errors
 ///
-/// `Read` and `Write` if that device failed, `File` with the text's first fault, and `Memory`. After `Write` a beginning of the
-/// answer's text was written, after another fault nothing. At `Memory` the source may have been read in part.
+/// `Read` and `Write` if that device failed, `File` with the text's first fault, and `Memory`. After `Write` a
+/// beginning of the answer's text was written, after another fault nothing. At `Memory` the source may have been read
+/// in part.
 pub fn answer_engine<S: Source, W: Sink, E: Sink, R: Threads + Wait + Clock + Sync>(
     task: &Task<'_, R>,
     source: &mut S,

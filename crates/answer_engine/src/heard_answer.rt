@@ -1,4 +1,5 @@
-//! An answer by a search or a learner, whichever is first, and what shows that there is no cover, for whoever is to write that down.
+//! An answer by a search or a learner, whichever is first, and what shows that there is no cover, for whoever is to
+//! write that down.
 
 ghost use Rattle.std.specs.Prelude.{◌≡◌, ◌≢◌, None, IfOk, IfSome};
 ghost use Rattle.answer_engine.specs.Answers.{AnswerSays, IsWonOf};
@@ -33,7 +34,8 @@ pub struct Listeners<T: Trace + ReasonListener + Drop, L: LearnerWatch + Drop> {
     pub is_learned: bool,
 }
 
-/// Lets the search and the learner look for an answer until one of them has it or the time is over. The only error is out of memory.
+/// Lets the search and the learner look for an answer until one of them has it or the time is over. The only error is
+/// out of memory.
 fn raced_aloud<
     V: EndWatch,
     T: Trace + ReasonListener + Drop,
@@ -80,8 +82,8 @@ fn raced_aloud<
     )
 }
 
-/// Returns an answer; none only where the time is limited, and over. The watch and the listeners hear what found it. The only error is out of
-/// memory.
+/// Returns an answer; none only where the time is limited, and over. The watch and the listeners hear what found it.
+/// The only error is out of memory.
 fn decided_aloud<
     V: EndWatch,
     T: Trace + ReasonListener + Drop,
@@ -132,10 +134,11 @@ fn write_decided_aloud<
     }
 }
 
-/// Writes an exact cover of a problem, with the options in the order of the file, or `none`, whichever of two lanes finds it first: a search that
-/// keeps states and looks for a reason, or a learner, which begins a tenth of a second later. A run in memory isn't begun: nobody could write down
-/// what shows that it found no cover. Where the time is limited it may write `no answer`. If that is asked for, what the answer rests on is written
-/// behind it. How far the search has come, and which lane was first, goes to the log.
+/// Writes an exact cover of a problem, with the options in the order of the file, or `none`, whichever of two lanes
+/// finds it first: a search that keeps states and looks for a reason, or a learner, which begins a tenth of a second
+/// later. A run in memory isn't begun: nobody could write down what shows that it found no cover. Where the time is
+/// limited it may write `no answer`. If that is asked for, what the answer rests on is written behind it. How far the
+/// search has come, and which lane was first, goes to the log.
 ///
 /// The listeners hear of both lanes, of the one that isn't first, too.
 ///

@@ -24,7 +24,8 @@ fn is_cover(found: &Option<Won>) -> bool {
     }
 }
 
-/// The answer of a search that nothing hears of, within the time that it has before other lanes begin. The only error is out of memory.
+/// The answer of a search that nothing hears of, within the time that it has before other lanes begin. The only error
+/// is out of memory.
 fn searched_shortly<C: Clock>(
     clock: &C,
     race: &Race,
@@ -63,8 +64,8 @@ fn searched_aloud<V: EndWatch, T: Trace + ReasonListener, C: Clock>(
     }
 }
 
-/// That there is no cover, where a reason of the problem as it stands is found before the watch ends that: no line of a certificate says any
-/// other. The listener hears of it. Where memory runs out none is found, and that is no error.
+/// That there is no cover, where a reason of the problem as it stands is found before the watch ends that: no line of a
+/// certificate says any other. The listener hears of it. Where memory runs out none is found, and that is no error.
 #[tactic(auto, using(crate::proofs::Firsts::cause_is_won))]
 fn excluded_aloud<W: ReasonWatch, T: ReasonListener>(
     alloc: Global,
@@ -86,8 +87,8 @@ fn excluded_aloud<W: ReasonWatch, T: ReasonListener>(
     }
 }
 
-/// The answer of a short search if that is a cover, of a reason that excludes covers, or of a search that the listener hears of. The only error is
-/// out of memory.
+/// The answer of a short search if that is a cover, of a reason that excludes covers, or of a search that the listener
+/// hears of. The only error is out of memory.
 fn decided_aloud<V: EndWatch, T: Trace + ReasonListener, C: Clock>(
     alloc: Global,
     problem: &Problem,

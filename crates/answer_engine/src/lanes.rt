@@ -87,8 +87,8 @@ fn learned<L: LearnerWatch>(
     }
 }
 
-/// The lane of the learner, which begins a tenth of a second after the search. Where its clauses have no room left it ends without an
-/// answer. The only error is out of memory.
+/// The lane of the learner, which begins a tenth of a second after the search. Where its clauses have no room left it
+/// ends without an answer. The only error is out of memory.
 pub(crate) fn learner_lane<R: Wait, L: LearnerWatch>(
     rt: &R,
     alloc: Global,
@@ -108,8 +108,8 @@ pub(crate) fn learner_lane<R: Wait, L: LearnerWatch>(
     found
 }
 
-/// That there is no cover, where a reason is found before the watch ends that. Where memory runs out none is found, and that is no error: a
-/// search may need less.
+/// That there is no cover, where a reason is found before the watch ends that. Where memory runs out none is found, and
+/// that is no error: a search may need less.
 #[tactic(auto, using(crate::proofs::Firsts::cause_is_won))]
 fn excluded<W: ReasonWatch>(alloc: Global, problem: &Problem, watch: &mut W) -> Option<Won>
     ensures { IfSome result (IsWonOf problem.now) }
@@ -145,7 +145,8 @@ fn ran<R: Threads + Wait + Clock + Sync>(
     }
 }
 
-/// The answer of a run of so many workers, which begins once the search has lasted a tenth of a second; none where there are none.
+/// The answer of a run of so many workers, which begins once the search has lasted a tenth of a second; none where
+/// there are none.
 fn ran_later<R: Threads + Wait + Clock + Sync>(
     rt: &R,
     alloc: Global,
@@ -162,8 +163,8 @@ fn ran_later<R: Threads + Wait + Clock + Sync>(
     ran(rt, alloc, problem, workers, race.over())
 }
 
-/// The lane of a reason, and then of a run in memory if so many threads are more than the other lanes need. Where memory runs out for it, or the run's
-/// books are full, it ends without an answer.
+/// The lane of a reason, and then of a run in memory if so many threads are more than the other lanes need. Where
+/// memory runs out for it, or the run's books are full, it ends without an answer.
 pub(crate) fn run_lane<R: Threads + Wait + Clock + Sync>(
     rt: &R,
     alloc: Global,

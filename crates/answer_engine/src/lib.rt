@@ -1,4 +1,5 @@
-//! The engine that answers by whatever is first: a search that keeps states, a learner, a reason that excludes covers, or workers of a run in memory.
+//! The engine that answers by whatever is first: a search that keeps states, a learner, a reason that excludes covers,
+//! or workers of a run in memory.
 #![tactic(auto)]
 
 mod answer;

@@ -1,9 +1,10 @@
 //! What the lanes of a race share.
 //!
-//! A portfolio, as in SAT competitions (plingeling, and Gomes and Selman, "Algorithm portfolios"): ways whose times have little to do with
-//! each other run side by side, and the first answer ends the others. Search, learner and reasons have a thread each, on any number of processors;
-//! workers of a run get what is more, so that two lanes that take turns aren't slowed down by a third for longer than a reason is looked for. For a
-//! tenth of a second the search is alone, since most files are decided by then, but for a reason that is looked for on a second processor.
+//! A portfolio, as in SAT competitions (plingeling, and Gomes and Selman, "Algorithm portfolios"): ways whose times
+//! have little to do with each other run side by side, and the first answer ends the others. Search, learner and
+//! reasons have a thread each, on any number of processors; workers of a run get what is more, so that two lanes that
+//! take turns aren't slowed down by a third for longer than a reason is looked for. For a tenth of a second the search
+//! is alone, since most files are decided by then, but for a reason that is looked for on a second processor.
 
 ghost use Rattle.std.specs.Prelude.{◌≤◌};
 
@@ -13,7 +14,8 @@ use std::sync::atomic::{AtomicBool, Ordering};
 use std::thread::Parker;
 use std::time::{Clock, Duration};
 
-/// How many milliseconds the search has before other lanes begin: what it decides in them needs no second thread at work.
+/// How many milliseconds the search has before other lanes begin: what it decides in them needs no second thread at
+/// work.
 const ALONE: u64 = 100;
 
 /// How many milliseconds it has before a reason is looked for on a processor of its own. With a hundredth of a second
@@ -83,9 +85,9 @@ impl Race {
         self.await_start(rt, &self.run, ALONE - FIRST)
     }
 
-    /// Waits for so many milliseconds, after which the search has lasted long enough for a further lane, or until it has ended. Returns whether the
-    /// lane is to begin: not where the race is over, nor where the search hasn't begun. (The lane of a thread that can't be started runs before the
-    /// others.)
+    /// Waits for so many milliseconds, after which the search has lasted long enough for a further lane, or until it
+    /// has ended. Returns whether the lane is to begin: not where the race is over, nor where the search hasn't begun.
+    /// (The lane of a thread that can't be started runs before the others.)
     fn await_start<R: Wait>(&self, rt: &R, start: &Parker, milliseconds: u64) -> bool {
         start.park_timeout(rt, Duration::from_millis(milliseconds));
         self.has_begun.load(Ordering::SeqCst) && !self.is_over()

@@ -53,7 +53,8 @@ fn write_won<W: Sink>(
     }
 }
 
-/// Writes an answer as `write_won` does, or that there is none since the time of all ways is over, and returns how that ended.
+/// Writes an answer as `write_won` does, or that there is none since the time of all ways is over, and returns how that
+/// ended.
 pub(crate) fn write_told<W: Sink>(
     alloc: Global,
     problem: &Problem,

@@ -30,17 +30,19 @@ pub struct Clean;
 pub enum Unclean {
     /// The registry or the sender of a delivered packet has no book. This is the least such site.
     MissingBook(Site),
-    /// No book's next entry can be merged. This is the least site that waits on a packet, and the place of the entry that waits.
+    /// No book's next entry can be merged. This is the least site that waits on a packet, and the place of the entry
+    /// that waits.
     NeverSent(Site, usize),
     /// Memory ran out. No site lacks a book.
     Memory,
 }
 
-/// Merges the books of one run, no two of one site, as far as possible: an entry that delivers a packet waits until an equal
-/// packet was put out, and a later incarnation of a node waits until the books of its earlier ones are used up.
+/// Merges the books of one run, no two of one site, as far as possible: an entry that delivers a packet waits until an
+/// equal packet was put out, and a later incarnation of a node waits until the books of its earlier ones are used up.
 ///
-/// `Clean`: a merge of all books is a run of the world, with restarts put in. So each cut of it is safe, and the registry's book
-/// answers what that run publishes, which is right. Otherwise the cause, the first that applies in the order of `Unclean`.
+/// `Clean`: a merge of all books is a run of the world, with restarts put in. So each cut of it is safe, and the
+/// registry's book answers what that run publishes, which is right. Otherwise the cause, the first that applies in the
+/// order of `Unclean`.
 pub fn audit<J: Run>(alloc: Global, books: &[Book<J>]) -> Result<Clean, Unclean>
     requires { are_distinct books.now ≡ true }
     ensures clean { OnOk result (AreSafe J.run books.now) }

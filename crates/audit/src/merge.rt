@@ -1,8 +1,8 @@
 //! A merge of beginnings of books, kept as one cursor for each book: how many of its entries are merged.
 //!
-//! Any book whose next entry may come takes it, without going back: what one book takes never keeps another from taking its entry, so the
-//! order of the books doesn't matter, and where nothing can be taken any more no other merge would have come further. (Packets only ever
-//! become more, as in Lamport's "happened before".)
+//! Any book whose next entry may come takes it, without going back: what one book takes never keeps another from taking
+//! its entry, so the order of the books doesn't matter, and where nothing can be taken any more no other merge would
+//! have come further. (Packets only ever become more, as in Lamport's "happened before".)
 
 ghost use Rattle.std.specs.Prelude.{◌≡◌, ◌+◌, ◌<◌, length, replicate, IfNone, IfSome};
 ghost use Rattle.audit.specs.Cursors.{AreOfMerge, HaveBegun, IsStuck, Takes};
@@ -40,8 +40,8 @@ fn count<J: Run>(book: &Book<J>) -> usize
     book.entries().len()
 }
 
-/// A book whose next entry may be taken, where there is one: the last one of the path, or one for which that waits; else the first
-/// that the index shows, with which the path restarts; else the first that all books show.
+/// A book whose next entry may be taken, where there is one: the last one of the path, or one for which that waits;
+/// else the first that the index shows, with which the path restarts; else the first that all books show.
 fn next<J: Run>(
     books: &[Book<J>],
     cursors: &[usize],
@@ -75,8 +75,8 @@ fn next<J: Run>(
     first_to_take(books, cursors, Evidence::AllBooks)
 }
 
-/// The book for which this one waits, and up to which of its entries: the one that puts out its next packet, as the index says,
-/// else the book of an earlier incarnation of its node.
+/// The book for which this one waits, and up to which of its entries: the one that puts out its next packet, as the
+/// index says, else the book of an earlier incarnation of its node.
 fn awaited<J: Run>(
     books: &[Book<J>],
     cursors: &[usize],

@@ -15,8 +15,8 @@ use spawn_frame::{Cause, Sibling, Site};
 use std::alloc::{AllocError, Global};
 use std::collections::HashMap;
 
-/// Where a packet is put out: by which book, by which of its entries, and as which of its packets. One that has no room here is
-/// not found.
+/// Where a packet is put out: by which book, by which of its entries, and as which of its packets. One that has no room
+/// here is not found.
 #[derive(Clone, Copy, Debug)]
 pub struct Spot {
     book: u32,
@@ -51,8 +51,8 @@ impl Spot {
     }
 }
 
-/// Where packets are first put out, by a digest of each. No contract speaks of what it holds: each spot is compared with the
-/// packet before anything rests on it.
+/// Where packets are first put out, by a digest of each. No contract speaks of what it holds: each spot is compared
+/// with the packet before anything rests on it.
 #[derive(Drop)]
 pub struct PacketIndex {
     spots: HashMap<u64, Spot>,

@@ -1,4 +1,5 @@
-//! Which book goes on next. No contract speaks of it: whatever book is named, its next entry is tested before it is taken.
+//! Which book goes on next. No contract speaks of it: whatever book is named, its next entry is tested before it is
+//! taken.
 
 use std::alloc::{AllocError, Global};
 
@@ -11,8 +12,8 @@ pub struct AwaitedBook {
     pub until: usize,
 }
 
-/// Books each of which waits for the next one. There is room for as many as there are books: a longer path has a circle, and
-/// nobody on that can go on.
+/// Books each of which waits for the next one. There is room for as many as there are books: a longer path has a
+/// circle, and nobody on that can go on.
 #[derive(Drop)]
 pub struct WaitingPath {
     books: Vec<AwaitedBook>,
@@ -47,8 +48,8 @@ impl WaitingPath {
         self.books.get(self.length.checked_sub(1)?).copied()
     }
 
-    /// Adds the book that the last one waits for. Where none is known, or there is no room, nobody on the path can go on, and it
-    /// is emptied.
+    /// Adds the book that the last one waits for. Where none is known, or there is no room, nobody on the path can go
+    /// on, and it is emptied.
     pub fn wait_for(&mut self, awaited: Option<AwaitedBook>) {
         match awaited {
             Some(book) if self.length < self.books.len() => {

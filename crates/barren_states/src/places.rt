@@ -10,7 +10,8 @@ ghost use Rattle.std.specs.Prelude.{◌<◌, ◌≤◌};
 /// A hash of a key.
 #[inline(always)]
 pub fn hash_of(key: &[u64]) -> u64 {
-    // (2^64 over the golden ratio, and below a factor of MurmurHash3: no clause depends on them, only how well keys spread)
+    // (2^64 over the golden ratio, and below a factor of MurmurHash3: no clause depends on them, only how well keys
+    // spread)
     let mut hash = 0x9e37_79b9_7f4a_7c15;
     for word in key {
         hash = mixed(hash ^ *word);

@@ -1,12 +1,13 @@
 //! The table: each key has two slots, next to each other, by the high half of its hash.
 //!
-//! Two slots and a worth that fades are as in the transposition tables of chess programs ("two-tier replacement"), where a deep entry is kept
-//! beside a recent one. A new key always goes in, over the one of lesser worth. Worth is by the visits that a state took, so what was dear to
-//! find stays longest; it fades with each key that is kept beside it, and is as at first once its key is found.
+//! Two slots and a worth that fades are as in the transposition tables of chess programs ("two-tier replacement"),
+//! where a deep entry is kept beside a recent one. A new key always goes in, over the one of lesser worth. Worth is by
+//! the visits that a state took, so what was dear to find stays longest; it fades with each key that is kept beside it,
+//! and is as at first once its key is found.
 //!
-//! The part of the slots that is in use doubles as more is kept, since memory that was never touched costs time. Then each key moves to where
-//! it is looked for from then on. Left where they are, half of them would not be found again, and hold their slots: dominoes on 16 by 16 took
-//! some 40 % more visits so.
+//! The part of the slots that is in use doubles as more is kept, since memory that was never touched costs time. Then
+//! each key moves to where it is looked for from then on. Left where they are, half of them would not be found again,
+//! and hold their slots: dominoes on 16 by 16 took some 40 % more visits so.
 
 ghost use Rattle.std.specs.Prelude.{◌≡◌, ℕ, ◌+◌, ◌*◌, ◌<◌, ◌≤◌, List, length, IfOk, IfSome};
 ghost use Rattle.barren_states.specs.States.{bytes_of, Holds, HoldsNoMore, IsKept};
@@ -37,7 +38,8 @@ pub struct BarrenStates {
     slots: Slots,
     /// How many keys were kept since there are so many slots.
     kept: usize,
-    /// How much each slot is worth. It fades with each key that is kept beside it, and is as at first once its key is found.
+    /// How much each slot is worth. It fades with each key that is kept beside it, and is as at first once its key is
+    /// found.
     worths: Vec<u8>,
     /// Room for a key that is moved.
     spare: Vec<u64>,
@@ -56,7 +58,8 @@ impl Model for BarrenStates {
 }
 
 impl BarrenStates {
-    /// An empty table for keys of so many words, with room for as many slots as take so many bytes; the only error is out of memory.
+    /// An empty table for keys of so many words, with room for as many slots as take so many bytes; the only error is
+    /// out of memory.
     pub fn build(alloc: Global, width: usize, room: u64) -> Result<BarrenStates, AllocError>
         requires { width ≤ 1024 }
         ensures empty { IfOk result (λ states.
@@ -138,8 +141,8 @@ impl BarrenStates {
         slot
     }
 
-    /// Takes twice as many slots in use, where there is room for them, once a key was kept for each of them; the first ones at the
-    /// first key.
+    /// Takes twice as many slots in use, where there is room for them, once a key was kept for each of them; the first
+    /// ones at the first key.
     #[inline(always)]
     fn grow_if_due(&mut self)
         ensures width { self.new.width ≡ self.old.width }
@@ -184,7 +187,8 @@ impl BarrenStates {
         ensures most { self.new.most ≡ self.old.most }
         ensures held { HoldsNoMore self.old self.new }
     {
-        // (the last one first: a key moves up, so what is still to be moved isn't written over but at the very beginning)
+        // (the last one first: a key moves up, so what is still to be moved isn't written over but at the very
+        // beginning)
         for slot in (0..before).rev() {
             self.shift(slot);
         }

@@ -1,7 +1,8 @@
-//! How much a state is worth that is kept. No contract speaks of it: whichever state gives way, the table holds nothing that is wrong.
+//! How much a state is worth that is kept. No contract speaks of it: whichever state gives way, the table holds nothing
+//! that is wrong.
 
-/// The worth of a state that takes so many visits: it grows with their logarithm, so that small states give way to large ones, and
-/// is at most 253.
+/// The worth of a state that takes so many visits: it grows with their logarithm, so that small states give way to
+/// large ones, and is at most 253.
 #[inline(always)]
 pub fn worth_of(visits: u64) -> u8 {
     // (64 digits would make 257, more than a byte holds)

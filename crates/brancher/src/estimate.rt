@@ -1,9 +1,11 @@
-//! Which of the two searches is thought to be the faster one. No clause speaks of it, since both meet the same contract.
+//! Which of the two searches is thought to be the faster one. No clause speaks of it, since both meet the same
+//! contract.
 //!
-//! Each is many times as fast as the other on some problems: dancing links where a choice takes few options away, sets of live options where
-//! items are few and each choice bars many. Each option weighs as much as it bars. In a plain average hundreds of easy items hide a hard
-//! core, and a few items to which all dominoes of a board give one colour send the board to sets; with the wrong search both take several
-//! times as long. (`bench/searches.py` has both on each of its problems.)
+//! Each is many times as fast as the other on some problems: dancing links where a choice takes few options away, sets
+//! of live options where items are few and each choice bars many. Each option weighs as much as it bars. In a plain
+//! average hundreds of easy items hide a hard core, and a few items to which all dominoes of a board give one colour
+//! send the board to sets; with the wrong search both take several times as long. (`bench/searches.py` has both on each
+//! of its problems.)
 
 use cover_problem::Problem;
 use std::alloc::{AllocError, Global};
@@ -15,7 +17,8 @@ struct Row {
     options: u64,
     /// How many names these have together.
     names: u64,
-    /// How many pairs of them give it one and the same colour, so that neither bars the other by it. An option is a pair with itself, too.
+    /// How many pairs of them give it one and the same colour, so that neither bars the other by it. An option is a
+    /// pair with itself, too.
     agreeing: u64,
     /// How many names the second options of these pairs have together.
     agreeing_names: u64,
@@ -59,12 +62,14 @@ impl Row {
     }
 }
 
-/// Whether a search by links is thought to be faster than one over sets of live options; the only error is out of memory.
+/// Whether a search by links is thought to be faster than one over sets of live options; the only error is out of
+/// memory.
 ///
-/// By links a choice takes each name in an option that it bars out of its column; over sets it counts the words of the rows of the
-/// primary items, unless these are few. A name takes about as long as a word, so links suit where a choice takes out fewer names than
-/// there are words to count. Most choices of a long search are made where options bar many others, so each option weighs as much as it
-/// bars: by an average over all options many that bar nothing would hide a few hundred that are hard to choose from.
+/// By links a choice takes each name in an option that it bars out of its column; over sets it counts the words of the
+/// rows of the primary items, unless these are few. A name takes about as long as a word, so links suit where a choice
+/// takes out fewer names than there are words to count. Most choices of a long search are made where options bar many
+/// others, so each option weighs as much as it bars: by an average over all options many that bar nothing would hide a
+/// few hundred that are hard to choose from.
 pub fn suits_links(alloc: Global, problem: &Problem) -> Result<bool, AllocError> {
     let mut rows = rows_of(alloc, problem)?;
     if are_few(&rows, problem.primary()) {
@@ -105,7 +110,8 @@ fn add_option(items: &[u16], rows: &mut [Row]) {
     }
 }
 
-/// A colour that an option gives an item, with the number of the option's names, in one number that sorts by item and colour.
+/// A colour that an option gives an item, with the number of the option's names, in one number that sorts by item and
+/// colour.
 fn coloured_name(item: u16, colour: u16, names: usize) -> u64 {
     u64::from(item) << 32 | u64::from(colour) << 16 | names.min(65535) as u64
 }
@@ -153,7 +159,8 @@ fn add_colours(rows: &mut [Row], sorted: &[u64]) {
     }
 }
 
-/// How many options all choices bar, each once, and how many names these take out, each as often as its choice bars options.
+/// How many options all choices bar, each once, and how many names these take out, each as often as its choice bars
+/// options.
 fn weighed(problem: &Problem, rows: &[Row]) -> (u64, u64) {
     let all = rows
         .iter()

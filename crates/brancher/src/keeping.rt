@@ -1,13 +1,13 @@
 //! A visit that keeps which states it found barren, and goes past those that it meets again.
 //!
-//! Programs for games call such a table a transposition table, and its entries are nogoods of constraint programming. Below prefixes of one
-//! state the search is the same (`alike_prefixes_are_searched_alike`), so the visits that are kept with a state are those that a search
-//! below would count, and no answer changes.
+//! Programs for games call such a table a transposition table, and its entries are nogoods of constraint programming.
+//! Below prefixes of one state the search is the same (`alike_prefixes_are_searched_alike`), so the visits that are
+//! kept with a state are those that a search below would count, and no answer changes.
 //!
-//! A state is found by its whole key, since a hash alone could make one with a cover seem barren. The key is made for each look, from the
-//! marks or planes of items: to keep it up to date at each choice would cost time even where nothing repeats. Where looks don't pay (as
-//! `Trials` finds), a plain loop searches, pauses for the next trial and goes on. It doesn't note how many visits were left at each prefix
-//! on its way, so the states of these aren't kept.
+//! A state is found by its whole key, since a hash alone could make one with a cover seem barren. The key is made for
+//! each look, from the marks or planes of items: to keep it up to date at each choice would cost time even where
+//! nothing repeats. Where looks don't pay (as `Trials` finds), a plain loop searches, pauses for the next trial and
+//! goes on. It doesn't note how many visits were left at each prefix on its way, so the states of these aren't kept.
 
 ghost use Rattle.std.specs.Prelude.{◌≡◌, Bool, ◌+◌, ◌<◌, ◌≤◌, ℕ, List, length, false, None, Some, true, IfSome, slice_index};
 ghost use Rattle.cover_problem.specs.Branching.{branch_item};
@@ -26,7 +26,8 @@ use crate::visit::{Visit, visit_prefix};
 use crate::watch::Watch;
 use choices::Branching;
 
-/// Puts a prefix in place of what is chosen, and visits it and what is below it; states that are kept are not visited again.
+/// Puts a prefix in place of what is chosen, and visits it and what is below it; states that are kept are not visited
+/// again.
 pub(crate) fn visit_below_keeping<B: Branching, W: Watch>(
     state: &mut B,
     prefix: &[u16],
@@ -174,8 +175,9 @@ fn step_plainly<B: Branching, W: Watch>(
     }
 }
 
-/// Goes past the chosen options, whose branch item is given: to their first child, unless they have none or are known to be barren. Answers
-/// how much is left then, and whether a child is chosen; none where it would be more than there is.
+/// Goes past the chosen options, whose branch item is given: to their first child, unless they have none or are known
+/// to be barren. Answers how much is left then, and whether a child is chosen; none where it would be more than there
+/// is.
 #[inline(always)]
 fn pass<B: Branching>(state: &mut B, item: u16, left: u64, kept: &mut Kept) -> Option<(u64, bool)>
     requires left { 0 < left }
@@ -229,8 +231,9 @@ fn turn<B: Branching>(state: &mut B, base: usize, left: u64, kept: &mut Kept) ->
     }
 }
 
-/// Takes choices back, the last one first, until one has an option that comes next, which is chosen in its place; what is left is
-/// kept as barren. False where none has: then only the first `base` choices are left, which are never taken back.
+/// Takes choices back, the last one first, until one has an option that comes next, which is chosen in its place; what
+/// is left is kept as barren. False where none has: then only the first `base` choices are left, which are never taken
+/// back.
 #[inline(always)]
 fn turn_onward<B: Branching>(state: &mut B, base: usize, left: u64, kept: &mut Kept) -> bool
     requires items { length (B.choices state.old).chosen
@@ -253,8 +256,8 @@ fn turn_onward<B: Branching>(state: &mut B, base: usize, left: u64, kept: &mut K
     false
 }
 
-/// Keeps that there is no cover below the chosen options, and how many visits that took, where it is noted what was left when they were
-/// come to, and unless the search is in its first visits.
+/// Keeps that there is no cover below the chosen options, and how many visits that took, where it is noted what was
+/// left when they were come to, and unless the search is in its first visits.
 #[inline(always)]
 fn keep_barren<B: Branching>(state: &B, left: u64, kept: &mut Kept)
     requires { length (B.choices state.now).chosen < length kept.old.entered }

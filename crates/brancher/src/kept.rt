@@ -2,12 +2,16 @@
 //!
 //! Once all options below a prefix were tried in vain, its state is kept where
 //! - `Trials` says that the search isn't in its first visits any more, in which it doesn't look either;
-//! - what was left on coming to it is noted: `Trials` says down to which depth the table is asked, and the loop that keeps nothing drops the
-//!   notes behind it. A search without fuel keeps what it looked for on its way, and what another worker found needs no note;
-//! - it took `LEAST_VISITS` or more, those that were skipped counted. Whoever traces a search may say fewer, and so leave a state out;
-//! - it has a key, of the table's width, and the table has slots. Where both of a key's slots are full, the state of lesser worth goes.
+//! - what was left on coming to it is noted: `Trials` says down to which depth the table is asked, and the loop that
+//!   keeps nothing drops the notes behind it. A search without fuel keeps what it looked for on its way, and what
+//!   another worker found needs no note;
+//! - it took `LEAST_VISITS` or more, those that were skipped counted. Whoever traces a search may say fewer, and so
+//!   leave a state out;
+//! - it has a key, of the table's width, and the table has slots. Where both of a key's slots are full, the state of
+//!   lesser worth goes.
 //!
-//! If the room for a table is refused, half of it is tried, and so on down to none: that is no error, since the table only saves time.
+//! If the room for a table is refused, half of it is tried, and so on down to none: that is no error, since the table
+//! only saves time.
 
 ghost use Rattle.std.specs.Prelude.{◌≡◌, ◌-◌, ◌<◌, ◌≤◌, ℕ, List, length, IfOk, IfSome, slice_index, slice_set};
 ghost use Rattle.barren_states.specs.States.{bytes_of, Holds};
@@ -24,8 +28,8 @@ use std::marker::Model;
 /// The fewest visits of a state that is kept: a smaller one is visited again as fast as it is found.
 pub const LEAST_VISITS: u64 = 4;
 
-/// What the searches of a problem keep: the states that they found barren, and, while one is under way, how much fuel was left when it
-/// came to prefixes of its way.
+/// What the searches of a problem keep: the states that they found barren, and, while one is under way, how much fuel
+/// was left when it came to prefixes of its way.
 #[derive(Drop)]
 pub struct Kept {
     /// The states.
@@ -49,8 +53,8 @@ impl Model for Kept {
 }
 
 impl Kept {
-    /// Nothing yet, with room for states of keys of so many words in at most so many bytes, or in less where that is refused. The only
-    /// error is out of memory.
+    /// Nothing yet, with room for states of keys of so many words in at most so many bytes, or in less where that is
+    /// refused. The only error is out of memory.
     pub fn build(
         alloc: Global,
         problem: &Problem,
@@ -194,7 +198,8 @@ impl Kept {
     }
 }
 
-/// A table of states of keys of so many words, in at most so many bytes, or in less where that is refused; the only error is out of memory.
+/// A table of states of keys of so many words, in at most so many bytes, or in less where that is refused; the only
+/// error is out of memory.
 fn states_in(alloc: Global, width: usize, room: u64) -> Result<BarrenStates, AllocError>
     requires { width ≤ 1024 }
     ensures empty { IfOk result (λ states. (key : List ℕ) (visits : ℕ) → Holds states key visits → ⊥) }

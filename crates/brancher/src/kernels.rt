@@ -105,7 +105,8 @@ impl<'a> Kernel<'a> {
         }
     }
 
-    /// Puts a prefix in place of what is chosen, below which there is no cover, and keeps that, and how many visits it takes.
+    /// Puts a prefix in place of what is chosen, below which there is no cover, and keeps that, and how many visits it
+    /// takes.
     pub(crate) fn keep_shared(&mut self, prefix: &[u16], count: u64, kept: &mut Kept)
         requires prefix { is_prefix (choices_in self.old).problem prefix.now ≡ true }
         requires barren { first (choices_in self.old).problem prefix.now ≡ None }

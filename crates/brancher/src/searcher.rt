@@ -84,8 +84,9 @@ impl<'a> Searcher<'a> {
         })
     }
 
-    /// A search as `of_tables` makes it that keeps states which it found to have no cover, and goes past them when it meets them again. They
-    /// take at most so many bytes; where these are refused they take fewer, or it keeps none. The only error is out of memory.
+    /// A search as `of_tables` makes it that keeps states which it found to have no cover, and goes past them when it
+    /// meets them again. They take at most so many bytes; where these are refused they take fewer, or it keeps none.
+    /// The only error is out of memory.
     pub fn keeping(
         alloc: Global,
         tables: &'a Tables<'a>,
@@ -153,8 +154,8 @@ impl<'a> Searcher<'a> {
         }
     }
 
-    /// Searches as `search` does, and copies out what it came to; `found` is the cover then, too. It takes the room for a
-    /// cover first: if memory runs out, nothing is searched, and the prefix comes back.
+    /// Searches as `search` does, and copies out what it came to; `found` is the cover then, too. It takes the room for
+    /// a cover first: if memory runs out, nothing is searched, and the prefix comes back.
     pub fn find(&mut self, prefix: Vec<u16>, fuel: u64) -> Result<Finding, Vec<u16>>
         requires prefix { is_prefix self.old.problem prefix.items ≡ true }
         requires fuel { 1 ≤ fuel }
@@ -187,9 +188,9 @@ impl<'a> Searcher<'a> {
         Finding::from_parts(prefix, fuel, outcome, cover)
     }
 
-    /// Searches as `find` does until the watch stops it; none where it did. With the finding it returns how many visits it counted: all
-    /// those of a prefix without a cover, else the fuel. It takes the room for a cover first: if memory runs out, nothing is searched,
-    /// and the prefix comes back.
+    /// Searches as `find` does until the watch stops it; none where it did. With the finding it returns how many visits
+    /// it counted: all those of a prefix without a cover, else the fuel. It takes the room for a cover first: if memory
+    /// runs out, nothing is searched, and the prefix comes back.
     pub fn find_until<W: Watch>(
         &mut self,
         prefix: Vec<u16>,
@@ -219,8 +220,8 @@ impl<'a> Searcher<'a> {
         Ok(Some((self.copied_into(room, prefix, fuel, outcome), made)))
     }
 
-    /// Searches as `find_until` does. Where the watch stopped it, it returns what it came to by then: with fuel for the visits that were made
-    /// alone it would be spent, so the finding has that fuel. None where not one was made.
+    /// Searches as `find_until` does. Where the watch stopped it, it returns what it came to by then: with fuel for the
+    /// visits that were made alone it would be spent, so the finding has that fuel. None where not one was made.
     pub fn find_so_far<W: Watch>(
         &mut self,
         prefix: Vec<u16>,
@@ -256,8 +257,9 @@ impl<'a> Searcher<'a> {
         Ok(Some((self.copied_into(room, prefix, fuel, outcome), made)))
     }
 
-    /// How many visits a search of a prefix takes below which there is no cover, where that is seen before the watch stops the search; none
-    /// where it isn't, where there is one, or where no states are kept: such a search doesn't ask the watch how long it may go on.
+    /// How many visits a search of a prefix takes below which there is no cover, where that is seen before the watch
+    /// stops the search; none where it isn't, where there is one, or where no states are kept: such a search doesn't
+    /// ask the watch how long it may go on.
     pub fn barren_visits<W: Watch>(&mut self, prefix: &[u16], watch: &mut W) -> Option<u64>
         requires { is_prefix self.old.problem prefix.now ≡ true }
         ensures problem { self.new.problem ≡ self.old.problem }
@@ -273,8 +275,8 @@ impl<'a> Searcher<'a> {
         }
     }
 
-    /// Keeps that there is no cover below a prefix, and how many visits a search of it takes, as if it had been searched. It does nothing where
-    /// no states are kept.
+    /// Keeps that there is no cover below a prefix, and how many visits a search of it takes, as if it had been
+    /// searched. It does nothing where no states are kept.
     pub fn keep_shared(&mut self, prefix: &[u16], count: u64)
         requires prefix { is_prefix self.old.problem prefix.now ≡ true }
         requires barren { first self.old.problem prefix.now ≡ None }
@@ -291,7 +293,8 @@ impl<'a> Searcher<'a> {
         self.kept.is_some()
     }
 
-    /// The cover that the last search found. It has at most as many options as there are primary items, so at most 1,000.
+    /// The cover that the last search found. It has at most as many options as there are primary items, so at most
+    /// 1,000.
     pub fn found(&self) -> &[u16]
         ensures found { result.now ≡ self.now.found }
         ensures short { length result.now ≤ MOST_ITEMS }

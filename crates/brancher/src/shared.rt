@@ -9,7 +9,8 @@ use crate::branching::put_prefix;
 use crate::kept::Kept;
 use choices::Branching;
 
-/// Puts a prefix in place of what is chosen, below which there is no cover, and keeps that, and how many visits it takes.
+/// Puts a prefix in place of what is chosen, below which there is no cover, and keeps that, and how many visits it
+/// takes.
 pub(crate) fn keep_shared<B: Branching>(state: &mut B, prefix: &[u16], count: u64, kept: &mut Kept)
     requires prefix { is_prefix (B.choices state.old).problem prefix.now ≡ true }
     requires barren { first (B.choices state.old).problem prefix.now ≡ None }

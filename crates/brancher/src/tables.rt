@@ -8,8 +8,8 @@ use option_sets::OptionSets;
 use std::alloc::{AllocError, Global};
 use std::marker::Model;
 
-/// What the searches of one problem share, in several threads, too: the problem and, for searches over sets of live options, the sets
-/// of its options. A contract sees it as the problem.
+/// What the searches of one problem share, in several threads, too: the problem and, for searches over sets of live
+/// options, the sets of its options. A contract sees it as the problem.
 #[derive(Drop)]
 pub struct Tables<'a> {
     problem: &'a Problem,

@@ -1,10 +1,11 @@
-//! Where a search looks for states that it keeps. No contract speaks of it: whatever is chosen, the search comes to the same, and only
-//! how long that takes depends on it.
+//! Where a search looks for states that it keeps. No contract speaks of it: whatever is chosen, the search comes to the
+//! same, and only how long that takes depends on it.
 //!
-//! A look costs some visits, so a search in which nothing repeats is not to look. In a trial it looks at all depths, and counts for each how
-//! many looks there were and how many visits they saved. A state that is found at a depth saves its visits if nothing is looked for
-//! below it; so the trial ends with the depth up to which the looks saved most, less what they cost. Behind it nothing is looked for
-//! until the next trial, which comes after twice as many visits each time.
+//! A look costs some visits, so a search in which nothing repeats is not to look. In a trial it looks at all depths,
+//! and counts for each how many looks there were and how many visits they saved. A state that is found at a depth saves
+//! its visits if nothing is looked for below it; so the trial ends with the depth up to which the looks saved most,
+//! less what they cost. Behind it nothing is looked for until the next trial, which comes after twice as many visits
+//! each time.
 //!
 //! Before the first trial looks, some visits are made: a search that ends within them has no use for a table.
 
@@ -14,7 +15,8 @@ use std::alloc::{AllocError, Global};
 
 /// How many looks a trial has.
 const TRIAL: u64 = 768;
-// (a hard sudoku takes some dozens, by links, where a look takes as many instructions as five visits: each item's bit is asked for)
+// (a hard sudoku takes some dozens, by links, where a look takes as many instructions as five visits: each item's bit
+// is asked for)
 /// How many visits there are at first in which nothing is looked for or kept.
 const EARLY: u64 = 128;
 /// What a look costs, in visits.
@@ -51,7 +53,8 @@ pub(crate) struct Trials {
 }
 
 impl Trials {
-    /// The first trial, for prefixes of fewer than so many options; none ever where there are no keys. The only error is out of memory.
+    /// The first trial, for prefixes of fewer than so many options; none ever where there are no keys. The only error
+    /// is out of memory.
     pub(crate) fn build(
         alloc: Global,
         depths: usize,

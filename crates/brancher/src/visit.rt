@@ -59,8 +59,9 @@ pub fn visit_below<B: Branching, W: Watch>(
     visit_prefix(state, fuel, 0, watch)
 }
 
-/// Visits the prefix that is chosen, and what is below it. The chosen options come back, or are the first cover. It also stops where no
-/// more than `pause` is left: then another visit may go on at what is chosen. However it ends, the watch hears then how many visits it made.
+/// Visits the prefix that is chosen, and what is below it. The chosen options come back, or are the first cover. It
+/// also stops where no more than `pause` is left: then another visit may go on at what is chosen. However it ends, the
+/// watch hears then how many visits it made.
 pub(crate) fn visit_prefix<B: Branching, W: Watch>(
     state: &mut B,
     fuel: u64,
@@ -104,8 +105,8 @@ pub(crate) fn visit_prefix<B: Branching, W: Watch>(
     }
 }
 
-/// Takes choices back, the last one first, until one has an option that comes next, which is chosen in its place. False where
-/// none has: then only the first `base` choices are left, which are never taken back.
+/// Takes choices back, the last one first, until one has an option that comes next, which is chosen in its place. False
+/// where none has: then only the first `base` choices are left, which are never taken back.
 #[inline(always)]
 fn choose_onward<B: Branching>(state: &mut B, base: usize) -> bool
     requires { length (B.choices state.old).chosen

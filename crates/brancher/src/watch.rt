@@ -9,18 +9,21 @@ pub trait Watch {
     /// Whether it ever stops one.
     ghost may_stop: { Bool };
 
-    /// Looks at a search that has chosen these options and has so many visits left. Answers whether the search is to stop.
+    /// Looks at a search that has chosen these options and has so many visits left. Answers whether the search is to
+    /// stop.
     fn look(&mut self, chosen: &[u16], left: u64) -> bool
         ensures { IsTrue result → may_stop ≡ true };
 
-    /// How many visits a search that keeps states may make before it looks, where that is to be sooner than after 1,024.
+    /// How many visits a search that keeps states may make before it looks, where that is to be sooner than after
+    /// 1,024.
     #[inline(always)]
     fn wait(&self) -> u64 {
         u64::MAX
     }
 
-    /// Hears that the search has made so many visits more, and how many are left: of each where it looks for states, else at the end of a
-    /// stretch. Where it went past a state that was kept, only one of its visits is made, but all of them are gone.
+    /// Hears that the search has made so many visits more, and how many are left: of each where it looks for states,
+    /// else at the end of a stretch. Where it went past a state that was kept, only one of its visits is made, but all
+    /// of them are gone.
     #[inline(always)]
     fn made(&mut self, _visits: u64, _left: u64) {}
 }

@@ -89,8 +89,8 @@ fn keeps_limit(options: &[Numbers]) -> bool
     true
 }
 
-/// The problem once the option is chosen: each option that clashes with it is a copy of it. None where all options together would have more
-/// items than those of a problem may have. The only error is out of memory.
+/// The problem once the option is chosen: each option that clashes with it is a copy of it. None where all options
+/// together would have more items than those of a problem may have. The only error is out of memory.
 #[tactic(auto, using(crate::proofs::Choices::items_stand, crate::proofs::Choices::colours_stand))]
 pub fn after_choice(
     alloc: Global,

@@ -13,7 +13,8 @@ use cover_problem::{Problem, option_names};
 use cover_reasons::{ReasonWatch, find_reason_until};
 use std::alloc::{AllocError, Global};
 
-/// A reason of the problem once the option is chosen, if one is found before the watch ends that. The only error is out of memory.
+/// A reason of the problem once the option is chosen, if one is found before the watch ends that. The only error is out
+/// of memory.
 fn case_of<W: ReasonWatch>(
     alloc: Global,
     problem: &Problem,
@@ -116,11 +117,11 @@ fn cases_tried<W: ReasonWatch>(
     }
 }
 
-/// The cases of an item, if a few that are tried have one all of whose options have a case, and the watch doesn't end that before. Then there is no
-/// exact cover.
+/// The cases of an item, if a few that are tried have one all of whose options have a case, and the watch doesn't end
+/// that before. Then there is no exact cover.
 ///
-/// Where none is found there may be a cover or none. A reason is looked for with one option of each item that is tried, and with its others where that
-/// one has a reason. The only error is out of memory.
+/// Where none is found there may be a cover or none. A reason is looked for with one option of each item that is tried,
+/// and with its others where that one has a reason. The only error is out of memory.
 pub fn find_cases_until<W: ReasonWatch>(
     alloc: Global,
     problem: &Problem,

@@ -11,8 +11,8 @@ ghost use Rattle.case_reasons.specs.declared.case.Cases.{Cases as CasesValue};
 use cover_problem::first_is_an_exact_cover;
 use cover_reasons::reasons_exclude_covers;
 
-/// The problem once an option is chosen keeps the rules of problems, if it has room for the copies, and each exact cover that has the option is
-/// one of it.
+/// The problem once an option is chosen keeps the rules of problems, if it has room for the copies, and each exact
+/// cover that has the option is one of it.
 pub fn a_choice_keeps_its_covers()
     ensures problem { (problem : ProblemValue) (option : ℕ) → IsProblem problem →
         option < length problem.options → has_room_after problem option ≡ true →

@@ -1,20 +1,22 @@
 //! The items whose options are tried.
 //!
-//! A choice excludes the more options, the more items it names. So those items come first whose shortest option is longest, such as the large
-//! pieces of a board among dominoes; of equal ones those with fewer options. The search for a cover takes items with few options first, and
-//! reaches such pieces last.
+//! A choice excludes the more options, the more items it names. So those items come first whose shortest option is
+//! longest, such as the large pieces of a board among dominoes; of equal ones those with fewer options. The search for
+//! a cover takes items with few options first, and reaches such pieces last.
 
 use cover_problem::Problem;
 use problem_copies::nodes_of;
 use std::alloc::{AllocError, Global};
 
-/// How many items are tried at most. Each of them costs a search for a reason, with its shortest option, also where there are no cases. On boards with
-/// odd pieces the first item has cases; none of the other problems that were looked at had any behind its fourth.
+/// How many items are tried at most. Each of them costs a search for a reason, with its shortest option, also where
+/// there are no cases. On boards with odd pieces the first item has cases; none of the other problems that were looked
+/// at had any behind its fourth.
 const MOST_ITEMS_TRIED: usize = 4;
 
-/// How many nodes (items of options, all together) the problem may have for one item to be tried; half as many for two, and so on. In larger
-/// problems, such as quasigroups of 30 and full timetables of a school, one search for a reason takes seconds, and none had cases. It doesn't bound what
-/// follows once an item is promising: a reason is looked for with each of its other options.
+/// How many nodes (items of options, all together) the problem may have for one item to be tried; half as many for two,
+/// and so on. In larger problems, such as quasigroups of 30 and full timetables of a school, one search for a reason
+/// takes seconds, and none had cases. It doesn't bound what follows once an item is promising: a reason is looked for
+/// with each of its other options.
 const MOST_NODES_TRIED: usize = 20_000;
 
 /// The options of an item.
@@ -56,7 +58,8 @@ pub(crate) fn items_to_try(alloc: Global, problem: &Problem) -> Result<Vec<u16>,
     for item in 0..problem.primary() as u16 {
         items.push(item)?;
     }
-    // (that with the longest first; an item without options would come before all, but then there is a reason without cases)
+    // (that with the longest first; an item without options would come before all, but then there is a reason without
+    // cases)
     items.sort_by_key(|item| match prospects.get(*item as usize) {
         Some(prospect) => (usize::MAX.saturating_sub(prospect.shortest), prospect.count),
         None => (usize::MAX, 0),

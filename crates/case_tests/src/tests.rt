@@ -1,8 +1,8 @@
 //! Problems once an option is chosen, and cases that are found; all were worked out by hand.
 //!
-//! Of the bugs of `case_reasons` that are kept outside the gate, `cases_are_found` finds `nothing_is_promising`, `short_options_come_first`,
-//! `three_items_are_tried` and `five_items_are_tried`, `large_problems_are_not_tried` finds `problems_of_any_size_are_tried`, and `a_watch_ends_it`
-//! finds `the_watch_is_not_handed_on`.
+//! Of the bugs of `case_reasons` that are kept outside the gate, `cases_are_found` finds `nothing_is_promising`,
+//! `short_options_come_first`, `three_items_are_tried` and `five_items_are_tried`, `large_problems_are_not_tried` finds
+//! `problems_of_any_size_are_tried`, and `a_watch_ends_it` finds `the_watch_is_not_handed_on`.
 
 use case_reasons::{Cases, after_choice, find_cases_until};
 use cover_problem::Problem;
@@ -18,7 +18,8 @@ fn problem_of<R: Abort>(rt: &R, alloc: Global, text: &str) -> Problem {
         .problem
 }
 
-/// The items of each option by their numbers, each with its colour behind it if it has one, and a stop behind the option.
+/// The items of each option by their numbers, each with its colour behind it if it has one, and a stop behind the
+/// option.
 fn options_text(alloc: Global, problem: &Problem) -> Result<String, AllocError> {
     let mut text = String::new(alloc);
     for option in 0..problem.options() as u16 {
@@ -86,7 +87,8 @@ fn long_and_short(alloc: Global, items: u16, short: u16) -> Result<String, Alloc
     Ok(text)
 }
 
-/// So many short options beside a long one, and whether there is room for as many copies: 200 items in each of 1,000 options are the most.
+/// So many short options beside a long one, and whether there is room for as many copies: 200 items in each of 1,000
+/// options are the most.
 static ROOM: [(u16, bool); 2] = [(999, true), (1_000, false)];
 
 #[test]
@@ -154,7 +156,8 @@ fn cases_are_found(rt: HostRuntime) -> Result<(), Fail> {
     Ok(())
 }
 
-/// An item `b` whose only option has `long` secondary items, and an item `a` with so many options of one item less, each of which clashes with that.
+/// An item `b` whose only option has `long` secondary items, and an item `a` with so many options of one item less,
+/// each of which clashes with that.
 fn crowded(alloc: Global, long: u16, options: u16) -> Result<String, AllocError> {
     let mut text = String::from_str(alloc, "a b |")?;
     let mut names = String::new(alloc);
@@ -169,7 +172,8 @@ fn crowded(alloc: Global, long: u16, options: u16) -> Result<String, AllocError>
     Ok(text)
 }
 
-/// So many options of 100 items beside one of 101, and the cases that are found: with 20,000 items of options one item is tried, with more none.
+/// So many options of 100 items beside one of 101, and the cases that are found: with 20,000 items of options one item
+/// is tried, with more none.
 static CROWDED: [(u16, &str); 2] = [(198, "1: 0"), (199, "")];
 
 #[test]

@@ -64,12 +64,14 @@ fn write_test<W: Sink>(
     }
 }
 
-/// Reads a problem to its end, tests a certificate's text, and writes `right`, or the first line that is wrong and what was expected there.
+/// Reads a problem to its end, tests a certificate's text, and writes `right`, or the first line that is wrong and what
+/// was expected there.
 ///
 /// # Errors
 ///
-/// `Read` and `Write` if that device failed, `File` with the first fault of the problem's text, and `Memory`. After `Write` a beginning of
-/// the line was written, after another fault nothing. At `Memory` the source may have been read in part.
+/// `Read` and `Write` if that device failed, `File` with the first fault of the problem's text, and `Memory`. After
+/// `Write` a beginning of the line was written, after another fault nothing. At `Memory` the source may have been read
+/// in part.
 pub fn certificate_engine<R: Source, W: Sink>(
     alloc: Global,
     file: &mut R,

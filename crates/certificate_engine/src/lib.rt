@@ -1,4 +1,5 @@
-//! The engine that tests a certificate: it reads a problem, and writes whether a text shows that there is no exact cover.
+//! The engine that tests a certificate: it reads a problem, and writes whether a text shows that there is no exact
+//! cover.
 #![tactic(auto)]
 
 mod check;

@@ -1,7 +1,7 @@
 //! Certificates that were written by hand, as the page of formats describes them.
 //!
-//! Of the bugs of `cover_certificates` that are kept outside the gate, `wrong_certificates` finds `forgotten_clause_stays` and
-//! `text_goes_on_behind_the_empty_clause`.
+//! Of the bugs of `cover_certificates` that are kept outside the gate, `wrong_certificates` finds
+//! `forgotten_clause_stays` and `text_goes_on_behind_the_empty_clause`.
 
 mod engine;
 mod searched;

@@ -11,14 +11,15 @@ use search_engines::ReasonListener;
 use std::alloc::{AllocError, Global};
 use std::io;
 
-/// How many kept cases whoever checks the lines has to hold at most: about as many as the search's own table has room for.
+/// How many kept cases whoever checks the lines has to hold at most: about as many as the search's own table has room
+/// for.
 const MOST_HELD: u32 = 1 << 22;
 
 /// So much greater is a case's number in the search's table, which takes none that is less than `LEAST_VISITS`.
 const TABLE_OFFSET: u64 = LEAST_VISITS;
 
-/// Writes the lines of a certificate by cases while a search goes on. A fault is kept until the end: the search goes on, since a cover needs no
-/// certificate.
+/// Writes the lines of a certificate by cases while a search goes on. A fault is kept until the end: the search goes
+/// on, since a cover needs no certificate.
 #[derive(Drop)]
 pub struct CaseWriter<W: Sink + Drop> {
     sink: W,
@@ -132,8 +133,8 @@ impl<W: Sink + Drop> CaseWriter<W> {
         self.visits.get(self.place_of(number)).copied()
     }
 
-    /// Holds a case that takes so many visits in place of the one that was held longest, and returns its number; none where there is no memory,
-    /// or no further number.
+    /// Holds a case that takes so many visits in place of the one that was held longest, and returns its number; none
+    /// where there is no memory, or no further number.
     #[inline(always)]
     fn hold(&mut self, visits: u64) -> Option<u32> {
         let number = self.next;

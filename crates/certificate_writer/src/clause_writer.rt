@@ -8,8 +8,8 @@ use std::alloc::{AllocError, Global};
 use std::io;
 use std::io::ErrorKind;
 
-/// Writes the lines of a certificate by clauses, one after the other. A fault is kept until the end: the learner goes on, since a cover needs
-/// no certificate.
+/// Writes the lines of a certificate by clauses, one after the other. A fault is kept until the end: the learner goes
+/// on, since a cover needs no certificate.
 #[derive(Drop)]
 pub struct ClauseWriter<W: Sink + Drop> {
     sink: W,

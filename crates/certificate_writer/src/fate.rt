@@ -43,8 +43,8 @@ impl CertificateFate {
         )
     }
 
-    /// Writes what became of the certificate of this name, and returns the exit status: that of the answer, unless the certificate is needed
-    /// and isn't there. A fault of the sink is passed over.
+    /// Writes what became of the certificate of this name, and returns the exit status: that of the answer, unless the
+    /// certificate is needed and isn't there. A fault of the sink is passed over.
     pub fn tell<E: Sink>(self, name: &str, status: u8, sink: &mut E) -> u8 {
         let (written, status) = match self {
             CertificateFate::Unneeded => return status,

@@ -1,4 +1,5 @@
-//! Certificates that there is no exact cover, as they are written while a search goes on or a learner learns, and tested when they are read back.
+//! Certificates that there is no exact cover, as they are written while a search goes on or a learner learns, and
+//! tested when they are read back.
 #![tactic(auto)]
 
 mod case_writer;

@@ -9,7 +9,8 @@ use std::io;
 /// So many bytes wait to be written together. Chosen, not measured.
 const MOST_WAITING: usize = 1 << 16;
 
-/// Returns the two lines at the head: what is shown, by which kind of lines, and how large the problem is. The only error is out of memory.
+/// Returns the two lines at the head: what is shown, by which kind of lines, and how large the problem is. The only
+/// error is out of memory.
 pub(crate) fn head_of(
     alloc: Global,
     kind: &[u8],

@@ -1,5 +1,5 @@
-//! `check_certificate FILE CERTIFICATE` says whether a certificate shows that a file's problem has no exact cover: `right`, or `wrong` and the
-//! number of the first wrong line. `trials/try_certificates.py` runs it.
+//! `check_certificate FILE CERTIFICATE` says whether a certificate shows that a file's problem has no exact cover:
+//! `right`, or `wrong` and the number of the first wrong line. `trials/try_certificates.py` runs it.
 #![tactic(auto)]
 
 use cover_certificates::{Checked, check_certificate};

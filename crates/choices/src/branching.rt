@@ -10,10 +10,11 @@ ghost use Rattle.choices.specs.Choices.{Choices, with_child, with_child_if, with
 
 use cover_problem::Problem;
 
-/// The chosen options of a problem, over which a search branches on items: of an uncovered item each live option that names
-/// it is chosen in turn (TAOCP 7.2.2.1). No call takes memory.
+/// The chosen options of a problem, over which a search branches on items: of an uncovered item each live option that
+/// names it is chosen in turn (TAOCP 7.2.2.1). No call takes memory.
 pub trait Branching: Drop {
-    // (items are part of a state since links depend on them: the item of a choice was covered before the others of its option)
+    // (items are part of a state since links depend on them: the item of a choice was covered before the others of its
+    // option)
     /// The problem, the chosen options, and the item by which each was chosen.
     ghost choices: { Self → Choices };
 
@@ -39,8 +40,8 @@ pub trait Branching: Drop {
     fn key_words(&self) -> usize
         ensures { result ≤ 1024 };
 
-    /// Writes the key of the chosen options into the words, if there are as many as a key has and the branch item, if there is one, has
-    /// a live option. Answers whether it did. Below prefixes with equal keys the search is the same.
+    /// Writes the key of the chosen options into the words, if there are as many as a key has and the branch item, if
+    /// there is one, has a live option. Answers whether it did. Below prefixes with equal keys the search is the same.
     fn write_key(&self, words: &mut [u64]) -> bool
         ensures { IsTrue result → IsKey (choices self.now).problem
             (choices self.now).chosen words.new };
@@ -51,8 +52,8 @@ pub trait Branching: Drop {
         requires live { is_live (choices self.old).problem (choices self.old).chosen option ≡ true }
         ensures { choices self.new ≡ with_choice (choices self.old) option };
 
-    /// Chooses the first live option that names an uncovered item, by that item. Answers the option; where there is none,
-    /// nothing changes.
+    /// Chooses the first live option that names an uncovered item, by that item. Answers the option; where there is
+    /// none, nothing changes.
     fn choose_first(&mut self, item: u16) -> Option<u16>
         requires item { item < length (choices self.old).problem.names }
         requires uncovered { is_covered (choices self.old).problem (choices self.old).chosen item
@@ -64,8 +65,8 @@ pub trait Branching: Drop {
         ensures chosen { choices self.new ≡ with_child_if (choices self.old) item result };
 
     // (one call, not an undo and a choice: so by links the item is covered once for all its options)
-    /// Chooses, in place of the option that was chosen last, the next one that was live and names the item by which that one
-    /// was chosen. Answers the option; where none follows, the choice is taken back.
+    /// Chooses, in place of the option that was chosen last, the next one that was live and names the item by which
+    /// that one was chosen. Answers the option; where none follows, the choice is taken back.
     fn choose_next(&mut self) -> Option<u16>
         requires { 0 < length (choices self.old).chosen }
         ensures { (before : Choices) (item option : ℕ) →

@@ -79,8 +79,8 @@ fn colours_with(
     Ok(colours)
 }
 
-/// The problem with a further secondary item, which the options of the clique name. It has the same exact covers. The only error is out of
-/// memory.
+/// The problem with a further secondary item, which the options of the clique name. It has the same exact covers. The
+/// only error is out of memory.
 pub fn with_clique(alloc: Global, problem: &Problem, clique: &Clique) -> Result<Problem, AllocError>
     requires { is_clique problem.now clique.now ≡ true }
     ensures made { IfOk result (λ made. made ≡ with_clique problem.now clique.now) }

@@ -86,7 +86,8 @@ fn namings_of<W: ReasonWatch>(
 }
 
 impl Clashes {
-    /// The clashes of a problem's options, of its first ones where the watch ends that; the only error is out of memory.
+    /// The clashes of a problem's options, of its first ones where the watch ends that; the only error is out of
+    /// memory.
     pub(crate) fn new<W: ReasonWatch>(
         alloc: Global,
         problem: &Problem,

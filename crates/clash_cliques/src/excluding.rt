@@ -107,11 +107,11 @@ fn search_room<W: ReasonWatch>(
     }
 }
 
-/// Room that is too little for an exact cover, once cliques have items that are found before the watch ends that. Then there is no exact cover
-/// of the problem itself.
+/// Room that is too little for an exact cover, once cliques have items that are found before the watch ends that. Then
+/// there is no exact cover of the problem itself.
 ///
-/// Where none is found there may be a cover or none. The watch is asked before each clique is grown, before each one has its item, and as often as where
-/// room is looked for. The only error is out of memory.
+/// Where none is found there may be a cover or none. The watch is asked before each clique is grown, before each one
+/// has its item, and as often as where room is looked for. The only error is out of memory.
 #[tactic(auto, using(crate::proofs::Several::barren_too))]
 pub fn find_room_by_cliques<W: ReasonWatch>(
     alloc: Global,

@@ -70,7 +70,8 @@ fn keep(
     Ok(())
 }
 
-/// Cliques that begin with the options of an item and have more than these, the largest first. The only error is out of memory.
+/// Cliques that begin with the options of an item and have more than these, the largest first. The only error is out of
+/// memory.
 fn grown_cliques<W: ReasonWatch>(
     alloc: Global,
     problem: &Problem,
@@ -141,12 +142,12 @@ fn named<W: ReasonWatch>(
     Ok(cliques)
 }
 
-/// Cliques that no item stands for: each begins with the options of an item and grows by options that clash with all of it, that one first
-/// which clashes with most others of these. The largest come first, 200 at most, no more than items can be added, and as many as copies of the
-/// problem with 2,000,000 items of options in all.
+/// Cliques that no item stands for: each begins with the options of an item and grows by options that clash with all of
+/// it, that one first which clashes with most others of these. The largest come first, 200 at most, no more than items
+/// can be added, and as many as copies of the problem with 2,000,000 items of options in all.
 ///
-/// Where options are many there are none: it looks at some 20,000,000 words of sets at most, of 64 options each, and takes memory of the order
-/// of the square of the options. The only error is out of memory.
+/// Where options are many there are none: it looks at some 20,000,000 words of sets at most, of 64 options each, and
+/// takes memory of the order of the square of the options. The only error is out of memory.
 pub fn find_cliques<W: ReasonWatch>(
     alloc: Global,
     problem: &Problem,

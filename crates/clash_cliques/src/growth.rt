@@ -101,7 +101,8 @@ impl Growth {
         }
     }
 
-    /// Makes the clique of these options and of candidates, one after the other, until the watch ends that. Returns whether there was one.
+    /// Makes the clique of these options and of candidates, one after the other, until the watch ends that. Returns
+    /// whether there was one.
     pub(crate) fn grow<W: ReasonWatch>(
         &mut self,
         clashes: &Clashes,

@@ -1,5 +1,5 @@
-//! Options of which each two clash: an exact cover has one of them at most. A problem with a further secondary item for such a clique has the
-//! same exact covers, and reasons can count the item.
+//! Options of which each two clash: an exact cover has one of them at most. A problem with a further secondary item for
+//! such a clique has the same exact covers, and reasons can count the item.
 #![tactic(auto)]
 
 mod adding;

@@ -15,14 +15,15 @@ use std::alloc::{AllocError, Global};
 /// A problem with further secondary items, and the cliques that they stand for.
 #[derive(Debug, Drop)]
 pub struct WithCliques {
-    /// The problem, with the same options in the same order and the same exact covers. The further items are its last ones.
+    /// The problem, with the same options in the same order and the same exact covers. The further items are its last
+    /// ones.
     pub problem: Problem,
     /// The cliques, in the order of their items.
     pub cliques: Vec<Clique>,
 }
 
-/// The problem with an item for each of the cliques, one after the other; nothing where one of them is none, or the watch ends that. The only error
-/// is out of memory.
+/// The problem with an item for each of the cliques, one after the other; nothing where one of them is none, or the
+/// watch ends that. The only error is out of memory.
 fn made_with<W: ReasonWatch>(
     alloc: Global,
     problem: &Problem,
@@ -43,8 +44,8 @@ fn made_with<W: ReasonWatch>(
     Ok(Some(made))
 }
 
-/// The problem with a further secondary item for each of the cliques, if they are such: it has the same exact covers. The only error is out of
-/// memory.
+/// The problem with a further secondary item for each of the cliques, if they are such: it has the same exact covers.
+/// The only error is out of memory.
 pub fn with_cliques(
     alloc: Global,
     problem: &Problem,
@@ -71,8 +72,8 @@ pub(crate) fn with_cliques_until<W: ReasonWatch>(
     made_with(alloc, problem, cliques, watch)
 }
 
-/// The problem with a further secondary item for each clique that is found before the watch ends that; nothing where none is found. The only
-/// error is out of memory.
+/// The problem with a further secondary item for each clique that is found before the watch ends that; nothing where
+/// none is found. The only error is out of memory.
 pub fn with_found_cliques<W: ReasonWatch>(
     alloc: Global,
     problem: &Problem,

@@ -279,7 +279,8 @@ fn simulate_command<'a>(alloc: Global) -> Result<Command<'a>, AllocError>
     )
 }
 
-/// What threads search, how long they go on, how often a node is restarted, how many workers there are, and how large books may get.
+/// What threads search, how long they go on, how often a node is restarted, how many workers there are, and how large
+/// books may get.
 fn threads_command<'a>(alloc: Global) -> Result<Command<'a>, AllocError>
     ensures app { IfOk result (λ command. app_of command ≡ threads_app) }
     ensures local { IfOk result (λ command. (out-Command command).has_globals ≡ false) }
@@ -384,7 +385,8 @@ fn name_of(mode: Mode) -> &'static str {
     }
 }
 
-/// What clap reports of a subcommand's values, with the usage of the subcommand by the name that the program was called by.
+/// What clap reports of a subcommand's values, with the usage of the subcommand by the name that the program was called
+/// by.
 pub fn value_error(
     alloc: Global,
     program: &str,

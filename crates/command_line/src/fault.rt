@@ -17,7 +17,8 @@ pub enum SettingsFault {
 }
 
 impl SettingsFault {
-    /// Returns the exit status: 2 for words that are no command line, 0 where they ask for help or the version, 5 if memory ran out.
+    /// Returns the exit status: 2 for words that are no command line, 0 where they ask for help or the version, 5 if
+    /// memory ran out.
     pub fn status(&self) -> u8
         ensures line { (error : Error) → self.now ≡ SettingsFault.Line error →
             IsLineStatus (kind_of error) result }
@@ -29,8 +30,8 @@ impl SettingsFault {
         }
     }
 
-    /// Prints why there are no settings, or the help that was asked for, and returns the exit status as `status` does. A fault of the
-    /// device is passed over: there is nowhere else to report it.
+    /// Prints why there are no settings, or the help that was asked for, and returns the exit status as `status` does.
+    /// A fault of the device is passed over: there is nowhere else to report it.
     pub fn tell(&self, rt: &HostRuntime) -> u8
         ensures line { (error : Error) → self.now ≡ SettingsFault.Line error →
             IsLineStatus (kind_of error) result }
@@ -48,7 +49,8 @@ impl SettingsFault {
     }
 }
 
-/// Returns the exit status of what clap prints: what goes to standard error is a mistake, help and the version go to standard output.
+/// Returns the exit status of what clap prints: what goes to standard error is a mistake, help and the version go to
+/// standard output.
 fn line_status(error: &Error) -> u8
     ensures { IsLineStatus (kind_of error.now) result }
 {

@@ -14,7 +14,8 @@ use crate::ranges::{
 };
 use clap::ArgMatches;
 
-/// Returns the number that decimal digits spell; none for a sign, which `parse` would take as `+`, and for a number of 2^64 or more.
+/// Returns the number that decimal digits spell; none for a sign, which `parse` would take as `+`, and for a number of
+/// 2^64 or more.
 fn number(text: &str) -> Option<u64>
     ensures spelled { IfSome result (Spells text.now) }
     ensures found { IsNumeral 10 text.now → digits_value 10 text.now < 2 ^ 64 → IsSome result }
@@ -25,7 +26,8 @@ fn number(text: &str) -> Option<u64>
     }
 }
 
-/// Returns the number that an option spells, or its default where the subcommand lacks the option; none where it spells none.
+/// Returns the number that an option spells, or its default where the subcommand lacks the option; none where it spells
+/// none.
 pub fn number_or(inner: &ArgMatches<'_>, id: &str, default: u64) -> Option<u64>
     ensures given { IfSome result (SpellsOr default (first_value (found_of inner.now) id.now)) }
     ensures none { IfNone result ((n : ℕ) →
@@ -37,8 +39,10 @@ pub fn number_or(inner: &ArgMatches<'_>, id: &str, default: u64) -> Option<u64>
     }
 }
 
-/// Returns the number that an option spells, or its default where the subcommand lacks the option; none where the value is out of this range.
-// (tested here, not by a range of clap's: the proof of a command with one is longer, and Settings asks for the bound anyway)
+/// Returns the number that an option spells, or its default where the subcommand lacks the option; none where the value
+/// is out of this range.
+// (tested here, not by a range of clap's: the proof of a command with one is longer, and Settings asks for the bound
+// anyway)
 fn number_between(
     inner: &ArgMatches<'_>,
     id: &str,
@@ -143,7 +147,8 @@ fn number_within(inner: &ArgMatches<'_>, id: &str, least: u64, most: u64) -> Opt
     Some(Some(number as u32))
 }
 
-/// Returns after how many seconds a run ends, from 1 to 1,000,000, if it is asked to end; none where the value is out of this range.
+/// Returns after how many seconds a run ends, from 1 to 1,000,000, if it is asked to end; none where the value is out
+/// of this range.
 pub fn seconds(inner: &ArgMatches<'_>) -> Option<Option<u32>>
     ensures given { IfSome result (SpellsIf (first_value (found_of inner.now) (codes "seconds"))) }
     ensures some { IfSome result (λ seconds. ForSome seconds (λ seconds. 1 ≤ seconds)) }
@@ -155,8 +160,8 @@ pub fn seconds(inner: &ArgMatches<'_>) -> Option<Option<u32>>
     number_within(inner, "seconds", 1, MOST_SECONDS)
 }
 
-/// Returns how many megabytes the books of all sites may take, from 1 to 1,000,000, if that is given; none where the value is out of this
-/// range.
+/// Returns how many megabytes the books of all sites may take, from 1 to 1,000,000, if that is given; none where the
+/// value is out of this range.
 pub fn megabytes(inner: &ArgMatches<'_>) -> Option<Option<u32>>
     ensures given { IfSome result (SpellsIf (first_value (found_of inner.now) (codes "megabytes"))) }
     ensures some { IfSome result (λ megabytes. ForSome megabytes (λ megabytes. 1 ≤ megabytes)) }
@@ -168,7 +173,8 @@ pub fn megabytes(inner: &ArgMatches<'_>) -> Option<Option<u32>>
     number_within(inner, "megabytes", 1, MOST_MEGABYTES)
 }
 
-/// Returns how many threads search and learn, from 2 to 10, if that is given; none where the value is out of this range.
+/// Returns how many threads search and learn, from 2 to 10, if that is given; none where the value is out of this
+/// range.
 pub fn threads(inner: &ArgMatches<'_>) -> Option<Option<u32>>
     ensures given { IfSome result (SpellsIf (first_value (found_of inner.now) (codes "threads"))) }
     ensures some { IfSome result (λ threads. ForSome threads (λ threads. 2 ≤ threads)) }

@@ -1,5 +1,6 @@
-//! The ranges of the options whose values are numbers, each in three forms side by side: the limit that a value is tested against, what
-//! help says, and what is written of a value outside. `Settings` and `Request` promise the same limits.
+//! The ranges of the options whose values are numbers, each in three forms side by side: the limit that a value is
+//! tested against, what help says, and what is written of a value outside. `Settings` and `Request` promise the same
+//! limits.
 
 /// `--fuel`, any number from 1. One thread has the greatest by default.
 pub const GREATEST_FUEL: &str = "18446744073709551615";

@@ -134,8 +134,8 @@ fn reads_input_twice(settings: &Settings<'_>) -> bool
     }
 }
 
-/// Returns whether a search is to have no limit of visits, and one. The greatest fuel passes: it is the default, so clap's matches don't
-/// show whether it was given.
+/// Returns whether a search is to have no limit of visits, and one. The greatest fuel passes: it is the default, so
+/// clap's matches don't show whether it was given.
 fn is_limited_twice(request: &Request<'_>) -> bool
     ensures { (result ≡ true) ↔ IsLimitedTwice request.now }
 {
@@ -165,8 +165,8 @@ fn value_fault(alloc: Global, words: &[&str], mode: Mode, message: &str) -> Sett
     }
 }
 
-/// Returns the fault of words without a subcommand. It never shows, since clap refuses such words first; but clap's contract doesn't
-/// promise that.
+/// Returns the fault of words without a subcommand. It never shows, since clap refuses such words first; but clap's
+/// contract doesn't promise that.
 fn no_subcommand(command: Command<'_>) -> SettingsFault {
     let mut command = command;
     match command.error(ErrorKind::MissingSubcommand, "a subcommand is required") {
@@ -179,9 +179,9 @@ fn no_subcommand(command: Command<'_>) -> SettingsFault {
 ///
 /// # Errors
 ///
-/// `Line` has clap's message for words that are no command line, for a value that is no number of its range, for standard input that
-/// is named twice, for a limit of visits beside `--unlimited` and for a certificate of a search that has one, or clap's text for help and
-/// version. `Memory` comes where memory ran out, in clap too.
+/// `Line` has clap's message for words that are no command line, for a value that is no number of its range, for
+/// standard input that is named twice, for a limit of visits beside `--unlimited` and for a certificate of a search
+/// that has one, or clap's text for help and version. `Memory` comes where memory ran out, in clap too.
 pub fn request<'a>(alloc: Global, words: &'a [&'a str]) -> Result<Request<'a>, SettingsFault>
     ensures met { IfOk result
         (IsMet (subcommand_of solver_app (map (λ word. word.now) words.now))) }

@@ -11,7 +11,8 @@ pub enum Expected {
     OpenItem,
     /// The number of a case that is kept.
     KeptCase,
-    /// A kept case that has all options that are live here, those counted that name one of its items, and none of whose items is covered.
+    /// A kept case that has all options that are live here, those counted that name one of its items, and none of whose
+    /// items is covered.
     WiderCase,
     /// A line that goes back only over a choice that plays no part in the refutation.
     IdleChoice,

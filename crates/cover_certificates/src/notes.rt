@@ -6,7 +6,8 @@ use crate::script::{cut, number_of, small_number_of};
 use cover_reasons::{MOST_MODULUS, Reason, Room, Weights};
 use std::alloc::{AllocError, Global};
 
-/// Returns the reason that a line gives for a problem with so many items; none where it gives none. The only error is out of memory.
+/// Returns the reason that a line gives for a problem with so many items; none where it gives none. The only error is
+/// out of memory.
 pub(crate) fn reason_of(
     alloc: Global,
     line: &[u8],
@@ -67,8 +68,8 @@ fn room_of(
     }
 }
 
-/// Writes the amounts of so many pairs, each of an item and its amount, to the items' places, and returns what stands behind them; none where
-/// something else stands there.
+/// Writes the amounts of so many pairs, each of an item and its amount, to the items' places, and returns what stands
+/// behind them; none where something else stands there.
 fn fill<'a>(list: &mut [u16], pairs: &'a [u8], count: usize) -> Option<&'a [u8]> {
     let mut rest = pairs;
     for _ in 0..count {

@@ -154,7 +154,8 @@ impl<'a, 'b> Refuter<'a, 'b> {
         Ok(items)
     }
 
-    /// Tests that a choice plays no part in the refutation of what it leaves: items that can't be covered behind it can't be before it.
+    /// Tests that a choice plays no part in the refutation of what it leaves: items that can't be covered behind it
+    /// can't be before it.
     fn jump(&self, case: &Case, child: &Case, items: &Items) -> Result<(), Fault>
         requires stuck { AreStuckIn self.now child.now items.now }
         requires within { (i : ℕ) → has_item child.now.items i ≡ true → has_item case.now.items i ≡ true }

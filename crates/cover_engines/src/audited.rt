@@ -77,8 +77,8 @@ fn status_of(found: AuditFinding, status: u8) -> u8
     }
 }
 
-/// Writes what is published, or that nothing is, then the line of what was found, and returns the status. The line is made
-/// before anything is written, so that nothing is written where memory runs out, here or in the audit.
+/// Writes what is published, or that nothing is, then the line of what was found, and returns the status. The line is
+/// made before anything is written, so that nothing is written where memory runs out, here or in the audit.
 pub fn write_audited<W: Sink>(
     alloc: Global,
     problem: &Problem,

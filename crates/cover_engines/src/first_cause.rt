@@ -2,7 +2,8 @@
 
 use udp_node::{EndCause, SiteEnd};
 
-/// Why the first site ended that didn't end with the search: the others end because of it, so it says why the run has no answer.
+/// Why the first site ended that didn't end with the search: the others end because of it, so it says why the run has
+/// no answer.
 #[derive(Clone, Copy)]
 pub(crate) struct FirstCause {
     /// None as long as no site has ended so.

@@ -12,14 +12,15 @@ use std::sync::{Mutex, Wait};
 use std::time::Clock;
 use udp_node::{Follower, Gate, SiteEnd};
 
-/// Follows a run, and writes now and then how far it has come: of the tree, what is below prefixes that were
-/// searched without a cover, and what the search that reports has left behind it. Where the clock can't be read it writes nothing of that. It
-/// writes that many jobs count more prefixes than a job can, once that is so.
+/// Follows a run, and writes now and then how far it has come: of the tree, what is below prefixes that were searched
+/// without a cover, and what the search that reports has left behind it. Where the clock can't be read it writes
+/// nothing of that. It writes that many jobs count more prefixes than a job can, once that is so.
 #[derive(Drop)]
 pub struct FollowedRun<'a, E: Sink, R: Wait + Clock> {
     rt: &'a R,
     overcounts: Overcounts,
-    /// How full the fullest book is, in percent: of the entries that it may have, or of the bytes that the books of all sites may take.
+    /// How full the fullest book is, in percent: of the entries that it may have, or of the bytes that the books of all
+    /// sites may take.
     fullest: AtomicU64,
     state: Mutex<State<'a, E>>,
 }
@@ -84,7 +85,8 @@ impl<'a, E: Sink, R: Wait + Clock> FollowedRun<'a, E, R> {
 }
 
 impl<'a, E: Sink> State<'a, E> {
-    /// Counts a prefix that a worker has searched. A search that found a cover doesn't report its visits, so that none are counted then.
+    /// Counts a prefix that a worker has searched. A search that found a cover doesn't report its visits, so that none
+    /// are counted then.
     fn note(&mut self, finding: &Finding, visits: u64) {
         self.jobs = self.jobs.saturating_sub(1);
         if finding.outcome() != Outcome::Cover {

@@ -41,13 +41,14 @@ pub struct Host<'a, N: Network, R: Threads + Wait + Clock + Sync> {
 }
 
 impl<N: Network, R: Threads + Wait + Clock + Sync> Host<'_, N, R> {
-    /// Reads a problem to its end, lets sites search it as the request has it, writes the answer, and with an audit what that found, and
-    /// returns the exit status: 0 for a cover, 1 for none, 4 for no answer, 6 where the audit is unclean.
+    /// Reads a problem to its end, lets sites search it as the request has it, writes the answer, and with an audit
+    /// what that found, and returns the exit status: 0 for a cover, 1 for none, 4 for no answer, 6 where the audit is
+    /// unclean.
     ///
-    /// The other statuses are 3, where a device failed, the text is refused or no links could be had, and 5 if memory ran out. Where
-    /// the sink failed a beginning of the text was written, else nothing. The links are had before any thread starts. What is
-    /// wrong, how many options were ignored, and how far the search is, if the request has it so, is written to the other sink, whose faults
-    /// are passed over.
+    /// The other statuses are 3, where a device failed, the text is refused or no links could be had, and 5 if memory
+    /// ran out. Where the sink failed a beginning of the text was written, else nothing. The links are had before any
+    /// thread starts. What is wrong, how many options were ignored, and how far the search is, if the request has it
+    /// so, is written to the other sink, whose faults are passed over.
     #[tactic(auto, using(crate::proofs::Ends::ends_unread, crate::proofs::Ends::ends_read))]
     pub fn solve<S: Source, W: Sink, E: Sink + Send>(
         &self,
@@ -91,8 +92,8 @@ impl<N: Network, R: Threads + Wait + Clock + Sync> Host<'_, N, R> {
         }
     }
 
-    /// Lets sites search a problem over these links, reports how many options were ignored and why there is no answer, and returns the
-    /// exit status of what is written.
+    /// Lets sites search a problem over these links, reports how many options were ignored and why there is no answer,
+    /// and returns the exit status of what is written.
     fn search<W: Sink, E: Sink + Send>(
         &self,
         request: &Request<'_>,
@@ -180,7 +181,8 @@ pub fn names_of<'a>(settings: &Settings<'a>) -> InputNames<'a> {
     }
 }
 
-/// The problem that was read, to be searched as the request has it, and by books of so many bytes where it doesn't say of how many.
+/// The problem that was read, to be searched as the request has it, and by books of so many bytes where it doesn't say
+/// of how many.
 fn task_of<'a>(request: &'a Request<'_>, read: &'a Read, book_bytes: u64) -> SolveTask<'a>
     ensures settings { result.settings.now ≡ request.now.settings }
     ensures problem { result.problem.now ≡ read.now.problem }

@@ -7,8 +7,8 @@ use dlx_reader::Sink;
 use std::sync::{Mutex, Wait};
 use udp_node::{Follower, Gate, SiteEnd};
 
-/// Follows a run, and keeps why it ended without an answer. Before that it writes nothing, but that many jobs count more prefixes than a job
-/// can, once that is so: such a run may come to nothing. A fault of the sink is passed over.
+/// Follows a run, and keeps why it ended without an answer. Before that it writes nothing, but that many jobs count
+/// more prefixes than a job can, once that is so: such a run may come to nothing. A fault of the sink is passed over.
 #[derive(Drop)]
 pub struct QuietRun<'a, E: Sink, R: Wait> {
     rt: &'a R,

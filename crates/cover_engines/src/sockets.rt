@@ -9,8 +9,8 @@ use std::net::{Net, UdpSocket};
 use std::sync::Arc;
 use udp_node::{Sockets, UdpLink, bound};
 
-/// The ends of the registry and of so many nodes, each with a socket of its own on 127.0.0.1. The errors are the system's, and
-/// `OutOfMemory`.
+/// The ends of the registry and of so many nodes, each with a socket of its own on 127.0.0.1. The errors are the
+/// system's, and `OutOfMemory`.
 pub fn links<R: Net>(rt: &R, alloc: Global, nodes: u8, key: RunKey) -> io::Result<Vec<UdpLink>>
     ensures { IfOk result (λ links. vec_len links ≡ nodes + 1) }
 {

@@ -45,9 +45,9 @@ pub struct SolveEnd<J: Run> {
     pub books: Vec<Book<J>>,
 }
 
-/// Lets the registry and as many nodes as the settings have search a problem over these links, the registry's first, each with
-/// threads of its own; node 1 restarts as often as they say. Their books may take `USUAL_BOOK_BYTES` together. The only fault is `Memory`: the run itself ran out of it,
-/// or a site did and there is no answer.
+/// Lets the registry and as many nodes as the settings have search a problem over these links, the registry's first,
+/// each with threads of its own; node 1 restarts as often as they say. Their books may take `USUAL_BOOK_BYTES`
+/// together. The only fault is `Memory`: the run itself ran out of it, or a site did and there is no answer.
 pub fn solve_engine<
     J: Run + Send + Sync,
     L: Link + Send,
@@ -76,8 +76,8 @@ pub fn solve_engine<
     solve_within(rt, alloc, task, links, hooks)
 }
 
-/// Lets sites search as `solve_engine` does, for so much time if it is limited: then the run ends, and there is the answer that the
-/// registry published by then, or none.
+/// Lets sites search as `solve_engine` does, for so much time if it is limited: then the run ends, and there is the
+/// answer that the registry published by then, or none.
 fn solve_within<
     J: Run + Send + Sync,
     L: Link + Send,
@@ -171,13 +171,14 @@ fn write_run<
 {
     let problem = task.problem;
     let end: SolveEnd<J> = solve_within(rt, alloc, task, links, hooks)?;
-    // (nobody reads them, and the process ends soon: given back one by one, their many small pieces would draw out its end)
+    // (nobody reads them, and the process ends soon: given back one by one, their many small pieces would draw out its
+    // end)
     mem::forget(end.books);
     write_published(problem, end.answer.as_ref(), sink)
 }
 
-/// Lets sites search the problem that the type names, audits their books, writes what the registry published and what was found,
-/// and returns the status. Nothing is written before the audit ends.
+/// Lets sites search the problem that the type names, audits their books, writes what the registry published and what
+/// was found, and returns the status. Nothing is written before the audit ends.
 fn write_audited_run<
     J: Run + Send + Sync,
     L: Link + Send,
@@ -206,15 +207,16 @@ fn write_audited_run<
     write_audited(alloc, problem, end.answer.as_ref(), found, sink)
 }
 
-/// Lets sites search a problem, as `solve_engine` does, writes what the registry published, or `no answer` where it published
-/// nothing, and returns the status: 0 for a cover, 1 for none, 4 for no answer. A run with a limit ends once that time is over.
+/// Lets sites search a problem, as `solve_engine` does, writes what the registry published, or `no answer` where it
+/// published nothing, and returns the status: 0 for a cover, 1 for none, 4 for no answer. A run with a limit ends once
+/// that time is over.
 ///
-/// Where the settings ask for an audit, the books of the run are audited before anything is written, and a line of what was found
-/// follows: `audit clean`, and the answer is right whatever the network delivered, or `audit unclean` with the cause, and the status
-/// is 6.
+/// Where the settings ask for an audit, the books of the run are audited before anything is written, and a line of what
+/// was found follows: `audit clean`, and the answer is right whatever the network delivered, or `audit unclean` with
+/// the cause, and the status is 6.
 ///
-/// The faults are `Write`, where the sink failed, and `Memory`. After `Write` a beginning of the text was written, after `Memory`
-/// nothing. Books that aren't audited take their memory until the process ends.
+/// The faults are `Write`, where the sink failed, and `Memory`. After `Write` a beginning of the text was written,
+/// after `Memory` nothing. Books that aren't audited take their memory until the process ends.
 pub fn solve_problem<
     L: Link + Send,
     H: Gate + Follower + Sync,

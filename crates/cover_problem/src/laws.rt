@@ -12,8 +12,10 @@ ghost use Rattle.cover_problem.specs.Branching.{branch_item, children, is_choice
 ghost use Rattle.cover_problem.specs.Search.{first_some, visits_until, first, visits, outcome, Covers, Barren, Spent};
 ghost use Rattle.cover_problem.specs.Examples.{small, coloured};
 
-// (the bodies are empty: the prover finds each proof by the name of its law, and a call of a law brings in its clauses at no cost)
-/// The branch item is the uncovered primary item with fewest live options, and the first of those. A prefix without one is complete.
+// (the bodies are empty: the prover finds each proof by the name of its law, and a call of a law brings in its clauses
+// at no cost)
+/// The branch item is the uncovered primary item with fewest live options, and the first of those. A prefix without one
+/// is complete.
 pub fn branch_item_is_first_fewest()
     ensures item { (problem : ProblemValue) (prefix : List ℕ) (item : ℕ) →
         branch_item problem prefix ≡ Some item → IsFirstFewest problem prefix item }
@@ -33,8 +35,8 @@ pub fn search_by_children()
         (children problem prefix) }
 {}
 
-/// Prefixes at which the same options are live and the same primary items uncovered are searched alike: by as many visits, to no
-/// cover or to one that puts the same options behind both.
+/// Prefixes at which the same options are live and the same primary items uncovered are searched alike: by as many
+/// visits, to no cover or to one that puts the same options behind both.
 pub fn alike_prefixes_are_searched_alike()
     ensures visits { (problem : ProblemValue) (prefix other : List ℕ) →
         AreAlike problem prefix other → visits problem prefix ≡ visits problem other }
@@ -46,8 +48,8 @@ pub fn alike_prefixes_are_searched_alike()
         AreAlike problem prefix other → first problem prefix ≡ None → first problem other ≡ None }
 {}
 
-/// Where each uncovered primary item has a live option, the live options tell which ones are uncovered. Each has one where the
-/// branch item does.
+/// Where each uncovered primary item has a live option, the live options tell which ones are uncovered. Each has one
+/// where the branch item does.
 pub fn live_options_tell_what_is_uncovered()
     ensures alike { (problem : ProblemValue) (prefix other : List ℕ) →
         AreAsLive problem prefix other → IsAlive problem prefix → IsAlive problem other →
@@ -89,8 +91,8 @@ pub fn covers_have_no_clash()
         chosen o ≡ true → chosen p ≡ true → (o ≡ p → ⊥) → clash problem o p ≡ false }
 {}
 
-/// A live option names no covered primary item. An option is live exactly where it agrees with each option of the prefix on
-/// every item that both name.
+/// A live option names no covered primary item. An option is live exactly where it agrees with each option of the
+/// prefix on every item that both name.
 pub fn live_options_agree()
     ensures primary { (problem : ProblemValue) (prefix : List ℕ) (option item : ℕ) →
         is_live problem prefix option ≡ true → item < problem.primary →

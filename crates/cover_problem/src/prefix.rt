@@ -58,8 +58,8 @@ fn agree(problem: &Problem, first: u16, second: u16, item: u16) -> bool
     requires second { second < length problem.now.options }
     ensures { result ≡ agree problem.now first second item }
 {
-    // (that a primary item has no colour is a rule of problems; with this test the laws hold of records that keep no rules, too)
-    // (without colours there is nothing to look for)
+    // (that a primary item has no colour is a rule of problems; with this test the laws hold of records that keep no
+    // rules, too) (without colours there is nothing to look for)
     if (item as usize) < problem.primary() || problem.colour_names() == 0 {
         return false;
     }

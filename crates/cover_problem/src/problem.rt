@@ -84,8 +84,8 @@ impl Problem {
         }
     }
 
-    /// Does nothing at run time. It tells the prover that the problem keeps the rules of its type, which a function that is given a
-    /// problem otherwise learns only from the contract of a getter.
+    /// Does nothing at run time. It tells the prover that the problem keeps the rules of its type, which a function
+    /// that is given a problem otherwise learns only from the contract of a getter.
     #[inline(always)]
     pub fn recall_rules(&self)
         ensures { IsProblem self.now }

@@ -64,7 +64,8 @@ impl Demand {
         }
     }
 
-    /// That an item needs as many items of a kind as each of its options names at least. Returns how many items were looked at.
+    /// That an item needs as many items of a kind as each of its options names at least. Returns how many items were
+    /// looked at.
     pub fn set_by_kind(
         &mut self,
         problem: &Problem,

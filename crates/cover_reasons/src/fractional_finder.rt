@@ -1,7 +1,8 @@
 //! The search for room that is too little by multipliers of any size.
 //!
-//! By Farkas' lemma there is such room just where a problem's linear relaxation has no solution (`fractional_room`). Where kinds of items have
-//! none, as in a timetable that lacks a teacher here and a room there, it is found still, but a reader has to add up more.
+//! By Farkas' lemma there is such room just where a problem's linear relaxation has no solution (`fractional_room`).
+//! Where kinds of items have none, as in a timetable that lacks a teacher here and a room there, it is found still, but
+//! a reader has to add up more.
 
 ghost use Rattle.std.specs.Prelude.{◌≡◌, true, IfOk, IfSome};
 ghost use Rattle.cover_reasons.specs.Room.{is_too_little};
@@ -24,8 +25,8 @@ const MOST_STEPS: usize = 4_000_000_000;
 /// what is missing is enough.
 const MOST_SCALES: usize = 200;
 
-/// Room that is too little, with multipliers as small as the scales let them be, if it is found before the watch ends that. Where none is found there
-/// may be a cover or none. The only error is out of memory.
+/// Room that is too little, with multipliers as small as the scales let them be, if it is found before the watch ends
+/// that. Where none is found there may be a cover or none. The only error is out of memory.
 pub fn find_fractional_room_until<W: ReasonWatch>(
     alloc: Global,
     problem: &Problem,
@@ -43,7 +44,8 @@ pub fn find_fractional_room_until<W: ReasonWatch>(
     scaled_room(alloc, problem, &simplex)
 }
 
-/// Adds the lines of the first basis. Returns whether it has all, which it hasn't where the watch ends that; the only error is out of memory.
+/// Adds the lines of the first basis. Returns whether it has all, which it hasn't where the watch ends that; the only
+/// error is out of memory.
 fn has_basis<W: ReasonWatch>(
     alloc: Global,
     simplex: &mut Simplex,

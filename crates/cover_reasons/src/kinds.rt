@@ -55,8 +55,9 @@ impl Kind {
         neighbours.is_plain(item) && !self.done.has(item)
     }
 
-    /// Makes the kind that of an item: of each option of its owners the item that is most like it, of those that no option names beside it.
-    /// Where the watch ends that, some of them. Returns about how many items, and words of sets of items, were looked at.
+    /// Makes the kind that of an item: of each option of its owners the item that is most like it, of those that no
+    /// option names beside it. Where the watch ends that, some of them. Returns about how many items, and words of sets
+    /// of items, were looked at.
     pub fn set<W: ReasonWatch>(
         &mut self,
         problem: &Problem,

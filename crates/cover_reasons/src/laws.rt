@@ -12,8 +12,8 @@ ghost use Rattle.cover_reasons.specs.Weights.{Weights as WeightsValue, excludes}
 
 use cover_problem::first_is_an_exact_cover;
 
-/// Where weights exclude it, no set of options is an exact cover, no exact cover extends any prefix, and a search of the whole problem finds
-/// none.
+/// Where weights exclude it, no set of options is an exact cover, no exact cover extends any prefix, and a search of
+/// the whole problem finds none.
 pub fn weights_exclude_covers()
     ensures cover { (problem : ProblemValue) (weights : WeightsValue) (chosen : ℕ → Bool) →
         IsProblem problem → excludes problem weights ≡ true →
@@ -28,8 +28,8 @@ pub fn weights_exclude_covers()
     first_is_an_exact_cover();
 }
 
-/// Where there is too little room for it, no set of options is an exact cover, no exact cover extends any prefix, and a search of the
-/// whole problem finds none.
+/// Where there is too little room for it, no set of options is an exact cover, no exact cover extends any prefix, and a
+/// search of the whole problem finds none.
 pub fn lack_of_room_excludes_covers()
     ensures cover { (problem : ProblemValue) (room : RoomValue) (chosen : ℕ → Bool) →
         IsProblem problem → is_too_little problem room ≡ true →
@@ -44,8 +44,8 @@ pub fn lack_of_room_excludes_covers()
     first_is_an_exact_cover();
 }
 
-/// Where a reason of either kind holds of a problem, no set of options is an exact cover, no exact cover extends any prefix, and a
-/// search of the whole problem finds none.
+/// Where a reason of either kind holds of a problem, no set of options is an exact cover, no exact cover extends any
+/// prefix, and a search of the whole problem finds none.
 pub fn reasons_exclude_covers()
     ensures cover { (problem : ProblemValue) (reason : ReasonValue) (chosen : ℕ → Bool) →
         IsProblem problem → holds_of problem reason ≡ true →

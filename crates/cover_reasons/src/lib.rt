@@ -1,5 +1,5 @@
-//! Reasons why a problem has no exact cover that anybody can add up: weights of the primary items such that each option weighs 0
-//! modulo some number, and all primary items together don't; or too little room for what primary items need.
+//! Reasons why a problem has no exact cover that anybody can add up: weights of the primary items such that each option
+//! weighs 0 modulo some number, and all primary items together don't; or too little room for what primary items need.
 #![tactic(auto)]
 
 mod bits;

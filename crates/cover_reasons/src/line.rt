@@ -56,7 +56,8 @@ pub fn add_line(modulus: u8, numbers: &mut [u8], more: &[u8]) {
     let count = numbers.len().min(more.len());
     for place in 0..count {
         let sum = numbers[place].wrapping_add(more[place]);
-        // (of a sum below the modulus the difference wraps and is greater: so the lesser is the remainder, without a branch)
+        // (of a sum below the modulus the difference wraps and is greater: so the lesser is the remainder, without a
+        // branch)
         numbers[place] = sum.min(sum.wrapping_sub(modulus));
     }
 }

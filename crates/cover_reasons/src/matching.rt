@@ -1,4 +1,5 @@
-//! A largest matching of what primary items need with what they may have, by augmenting paths (Kuhn, "The Hungarian method"; Berge).
+//! A largest matching of what primary items need with what they may have, by augmenting paths (Kuhn, "The Hungarian
+//! method"; Berge).
 //!
 //! Where no path leads on, the items that were reached violate Hall's condition: they are the reason.
 
@@ -84,7 +85,8 @@ impl Matching {
         self.steps
     }
 
-    /// Gives a primary item one more item: one that nobody has, or else one whose holder gets another one for it, and so on.
+    /// Gives a primary item one more item: one that nobody has, or else one whose holder gets another one for it, and
+    /// so on.
     fn gives_one(&mut self, problem: &Problem, demand: &Demand, item: usize) -> bool {
         self.gives_free(demand, item) || self.gives_by_path(problem, demand, item)
     }
@@ -181,7 +183,8 @@ impl Matching {
         problem: &Problem,
         demand: &Demand,
     ) -> Result<Room, AllocError> {
-        // (no path found a free item: all that the reached ones may have is theirs already, and one of them still lacks some)
+        // (no path found a free item: all that the reached ones may have is theirs already, and one of them still lacks
+        // some)
         let mut needs = Row::zeros(alloc, problem.primary())?;
         for place in 0..self.count {
             let item = self.reached.at(place) as usize;

@@ -47,7 +47,8 @@ fn collect_primary(primary: usize, items: &[u16], set: &mut Bits) {
 }
 
 impl Neighbours {
-    /// What is known of a problem's items, by its first options where the watch ends that; the only error is out of memory.
+    /// What is known of a problem's items, by its first options where the watch ends that; the only error is out of
+    /// memory.
     pub fn new<W: ReasonWatch>(
         alloc: Global,
         problem: &Problem,
@@ -137,8 +138,8 @@ impl Neighbours {
         !self.coloured.has(item)
     }
 
-    /// How like two items are, 0 to 65,535: by how many of the items beside which either stands both do, and then by how many options
-    /// name them.
+    /// How like two items are, 0 to 65,535: by how many of the items beside which either stands both do, and then by
+    /// how many options name them.
     pub fn likeness(&self, one: usize, other: usize) -> u16 {
         let (Some(mine), Some(theirs)) = (self.owners(one), self.owners(other)) else {
             return 0;

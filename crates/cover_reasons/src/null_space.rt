@@ -1,9 +1,9 @@
-//! Vectors of weights under which each option so far weighs 0: the null space of the options as rows of a matrix, by Gaussian elimination
-//! with the vectors as columns.
+//! Vectors of weights under which each option so far weighs 0: the null space of the options as rows of a matrix, by
+//! Gaussian elimination with the vectors as columns.
 //!
-//! One vector that gives all items together a weight other than 0 excludes an exact cover, as an invariant of colouring does for tilings
-//! (the mutilated chessboard, by 1 and -1). Modulo a power of a prime the least multiple that isn't 0 is the pivot, so that nothing is
-//! divided by what has no inverse.
+//! One vector that gives all items together a weight other than 0 excludes an exact cover, as an invariant of colouring
+//! does for tilings (the mutilated chessboard, by 1 and -1). Modulo a power of a prime the least multiple that isn't 0
+//! is the pivot, so that nothing is divided by what has no inverse.
 
 ghost use Rattle.std.specs.Prelude.{◌≡◌, ◌<◌, ◌≤◌};
 
@@ -24,7 +24,8 @@ struct Pivot {
     multiple: Multiple,
 }
 
-/// Vectors of weights modulo a small number: at first of each item alone, then such that each option that was added weighs 0.
+/// Vectors of weights modulo a small number: at first of each item alone, then such that each option that was added
+/// weighs 0.
 #[derive(Drop)]
 pub struct NullSpace {
     modulus: u8,
@@ -71,7 +72,8 @@ fn pivot_of(modulus: u8, sums: &[u8]) -> Option<Pivot>
             continue;
         }
         let multiple = least_multiple(modulus, *sum);
-        // (modulo a power of a prime the least of these multiples divides all of them, so its vector can clear each other one)
+        // (modulo a power of a prime the least of these multiples divides all of them, so its vector can clear each
+        // other one)
         let better = match best {
             None => true,
             Some(pivot) => multiple.number < pivot.multiple.number,

@@ -16,11 +16,11 @@ use std::alloc::{AllocError, Global};
 /// The moduli that are tried, in this order: small primes, and powers of those that boards and tori need.
 const MODULI: [u8; 8] = [2, 3, 4, 8, 9, 5, 7, 16];
 
-/// A reason why the problem has no exact cover: too little room of one kind, or else weights modulo 2, 3, 4, 8, 9, 5, 7 or 16, or else too
-/// little room by any multipliers.
+/// A reason why the problem has no exact cover: too little room of one kind, or else weights modulo 2, 3, 4, 8, 9, 5, 7
+/// or 16, or else too little room by any multipliers.
 ///
-/// Where it finds none there may be a cover or none. It takes memory of the order of the items' square, and time of the order of their
-/// cube, a second or three at most. The only error is out of memory.
+/// Where it finds none there may be a cover or none. It takes memory of the order of the items' square, and time of the
+/// order of their cube, a second or three at most. The only error is out of memory.
 pub fn find_reason(alloc: Global, problem: &Problem) -> Result<Option<Reason>, AllocError>
     ensures holds { IfOk result (λ found.
         IfSome found (λ reason. holds_of problem.now reason ≡ true)) }
@@ -70,8 +70,8 @@ pub fn find_short_reason_until<W: ReasonWatch>(
 
 /// The last kind alone, looked for until the watch ends that: too little room by any multipliers.
 ///
-/// In a problem made from another one by making items primary that each cover uses it finds what it finds in that: the room that shows that each cover
-/// uses them shows it of each solution of the linear relaxation, too.
+/// In a problem made from another one by making items primary that each cover uses it finds what it finds in that: the
+/// room that shows that each cover uses them shows it of each solution of the linear relaxation, too.
 pub fn find_fractional_reason_until<W: ReasonWatch>(
     alloc: Global,
     problem: &Problem,

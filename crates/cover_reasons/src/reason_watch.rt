@@ -2,9 +2,9 @@
 
 /// What looks at the search for a reason now and then, and may end it.
 pub trait ReasonWatch {
-    /// Whether the search is to end. Once it has said so, it always does. It is asked for each primary item of a kind, before each option that is made to
-    /// weigh nothing and before each pivot, and now and then while tables are made, so more than once in a thousandth of a second, but for problems
-    /// at the limits of their format.
+    /// Whether the search is to end. Once it has said so, it always does. It is asked for each primary item of a kind,
+    /// before each option that is made to weigh nothing and before each pivot, and now and then while tables are made,
+    /// so more than once in a thousandth of a second, but for problems at the limits of their format.
     fn look(&mut self) -> bool;
 }
 

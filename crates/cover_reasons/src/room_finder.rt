@@ -1,8 +1,9 @@
 //! The search for primary items that have too little room.
 //!
-//! Hall's marriage theorem: a matching of what primary items need with what they may have, and where the largest one leaves somebody without,
-//! the items that paths from there reach have too little room together. It is looked for in one kind of items after another (as one
-//! teacher's periods), since a reason in one kind is short, and between the two sides of a board.
+//! Hall's marriage theorem: a matching of what primary items need with what they may have, and where the largest one
+//! leaves somebody without, the items that paths from there reach have too little room together. It is looked for in
+//! one kind of items after another (as one teacher's periods), since a reason in one kind is short, and between the two
+//! sides of a board.
 
 ghost use Rattle.std.specs.Prelude.{◌≡◌, true, IfOk, IfSome};
 ghost use Rattle.cover_reasons.specs.Room.{is_too_little};
@@ -24,11 +25,13 @@ use std::alloc::{AllocError, Global};
 /// About how many items of options, and words of sets of items, are looked at for kinds: a tenth of a second.
 const MOST_STEPS: usize = 20_000_000;
 
-/// Room that is too little for an exact cover: that of an item in no option; of one kind, as one teacher's periods, for the primary items
-/// each of whose options names some of it; or of one side, as the dark squares of a board, for the items of the other.
+/// Room that is too little for an exact cover: that of an item in no option; of one kind, as one teacher's periods, for
+/// the primary items each of whose options names some of it; or of one side, as the dark squares of a board, for the
+/// items of the other.
 ///
-/// Where it finds none there may be a cover or none. It looks at some 20,000,000 items of options at most, each option's items counted as
-/// often as it looks at them or adds them up, and takes memory of the order of the items' square. The only error is out of memory.
+/// Where it finds none there may be a cover or none. It looks at some 20,000,000 items of options at most, each
+/// option's items counted as often as it looks at them or adds them up, and takes memory of the order of the items'
+/// square. The only error is out of memory.
 pub fn find_room(alloc: Global, problem: &Problem) -> Result<Option<Room>, AllocError>
     ensures { IfOk result (λ found. IfSome found (λ room. is_too_little problem.now room ≡ true)) }
 {
@@ -97,8 +100,8 @@ fn bare_room(
     Ok(None)
 }
 
-/// The items in the order in which their kinds are looked at: secondary ones first, and of these the ones that stand beside most primary
-/// items; the only error is out of memory.
+/// The items in the order in which their kinds are looked at: secondary ones first, and of these the ones that stand
+/// beside most primary items; the only error is out of memory.
 fn seeds(
     alloc: Global,
     problem: &Problem,
@@ -250,7 +253,8 @@ impl Finder {
     }
 }
 
-/// Makes the demand what primary items need of a kind, or what some of them do where the watch ends that. Returns how many items were looked at.
+/// Makes the demand what primary items need of a kind, or what some of them do where the watch ends that. Returns how
+/// many items were looked at.
 fn need_kind<W: ReasonWatch>(
     problem: &Problem,
     neighbours: &Neighbours,

@@ -106,11 +106,12 @@ fn is_reason(problem: &Problem, room: &Room) -> bool
     all_fit(problem, room)
 }
 
-/// Whether this room is too little for an exact cover of the problem: primary items alone need it, each option needs no more than it
-/// has room for, that of items to which no option gives a colour, and all items together need more than there is room for. Where
-/// it is too little, no prefix has a cover, and a search finds none.
+/// Whether this room is too little for an exact cover of the problem: primary items alone need it, each option needs no
+/// more than it has room for, that of items to which no option gives a colour, and all items together need more than
+/// there is room for. Where it is too little, no prefix has a cover, and a search finds none.
 ///
-/// It takes no memory, and time of the order of the options' items, for each item of an option with a colour as much as the option has items.
+/// It takes no memory, and time of the order of the options' items, for each item of an option with a colour as much as
+/// the option has items.
 pub fn is_too_little(problem: &Problem, room: &Room) -> bool
     ensures too_little { result ≡ is_too_little problem.now room.now }
     ensures barren { result ≡ true → (prefix : List ℕ) → IsBarren problem.now prefix }

@@ -1,6 +1,7 @@
 //! The search for weights that exclude an exact cover, modulo each of some small numbers.
 //!
-//! Fractions come later (`fractional_finder`): it takes longer to find them, and whole numbers modulo m can be added up by hand.
+//! Fractions come later (`fractional_finder`): it takes longer to find them, and whole numbers modulo m can be added up
+//! by hand.
 
 ghost use Rattle.std.specs.Prelude.{◌≡◌, ◌≤◌, true, IfOk, IfSome};
 ghost use Rattle.cover_reasons.specs.Weights.{excludes};
@@ -12,11 +13,11 @@ use crate::weights_test::excludes;
 use cover_problem::Problem;
 use std::alloc::{AllocError, Global};
 
-/// Weights modulo one of these numbers that exclude an exact cover: modulo the first of the numbers that has such weights. Numbers
-/// beyond 2 to 127 are passed over, and only a prime or a power of one is looked at as it should be.
+/// Weights modulo one of these numbers that exclude an exact cover: modulo the first of the numbers that has such
+/// weights. Numbers beyond 2 to 127 are passed over, and only a prime or a power of one is looked at as it should be.
 ///
-/// Where it finds none there may be a cover or none, and there may be such weights modulo other numbers. It takes memory of the order of the
-/// primary items' square. The only error is out of memory.
+/// Where it finds none there may be a cover or none, and there may be such weights modulo other numbers. It takes
+/// memory of the order of the primary items' square. The only error is out of memory.
 pub fn find_weights(
     alloc: Global,
     problem: &Problem,
@@ -75,7 +76,8 @@ fn weights_modulo<W: ReasonWatch>(
     Ok(None)
 }
 
-/// Makes each option weigh 0, as long as all items together weigh something and the watch doesn't end it. Returns whether each one does.
+/// Makes each option weigh 0, as long as all items together weigh something and the watch doesn't end it. Returns
+/// whether each one does.
 fn are_balanced_by<W: ReasonWatch>(
     null_space: &mut NullSpace,
     problem: &Problem,

@@ -65,8 +65,9 @@ fn is_reason(problem: &Problem, weights: &Weights) -> bool
     are_balanced(problem, weights)
 }
 
-/// Whether the weights show that the problem has no exact cover: primary items alone have weights, each option weighs 0 modulo the
-/// modulus, and all items together don't. Where they show it, no prefix has a cover, and a search finds none.
+/// Whether the weights show that the problem has no exact cover: primary items alone have weights, each option weighs 0
+/// modulo the modulus, and all items together don't. Where they show it, no prefix has a cover, and a search finds
+/// none.
 ///
 /// It takes no memory, and time of the order of the options' items.
 pub fn excludes(problem: &Problem, weights: &Weights) -> bool

@@ -20,8 +20,8 @@ fn pick(rng: &mut Pcg32, bound: usize) -> usize
 }
 
 impl<'a> World<'a> {
-    /// Draws an event by the generator's next words: a delivery, more often of a packet sent lately, or something that a node
-    /// does of itself. Searches have this fuel; nodes restart only while restarts are left. It takes no memory.
+    /// Draws an event by the generator's next words: a delivery, more often of a packet sent lately, or something that
+    /// a node does of itself. Searches have this fuel; nodes restart only while restarts are left. It takes no memory.
     ///
     /// Two words say what kind of event it is and at which node; a third one is drawn only where a packet or a second
     /// node is to be picked.

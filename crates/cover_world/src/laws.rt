@@ -76,8 +76,8 @@ pub fn a_simulation_is_a_run()
         Simulated problem fuel turns old new → Run problem old.world new }
 {}
 
-/// A simulation comes to one world: its problem, the world that it begins with, its generator and its settings determine what it
-/// publishes.
+/// A simulation comes to one world: its problem, the world that it begins with, its generator and its settings
+/// determine what it publishes.
 pub fn a_simulation_comes_to_one_world()
     ensures { (problem : Problem) (fuel turns : ℕ) (old : Simulation) (new other : World) →
         Simulated problem fuel turns old new → Simulated problem fuel turns old other →

@@ -1,4 +1,5 @@
-//! What is looked up in a table. It costs what `Table::next_here` does, and a pass through the guests where no child is here.
+//! What is looked up in a table. It costs what `Table::next_here` does, and a pass through the guests where no child is
+//! here.
 
 ghost use Rattle.std.specs.Prelude.{◌≡◌, slice_get, true, IfSome};
 ghost use Rattle.cover_world.specs.Views.{first_here, first_out, here_child, here_guest, here_job};

@@ -139,8 +139,8 @@ pub fn no_prefix_given()
         })) }
 {}
 
-/// A result at an attempt that the owner has superseded enters nothing, nor does one of a site that isn't the thief: it is
-/// refused, and nothing changes.
+/// A result at an attempt that the owner has superseded enters nothing, nor does one of a site that isn't the thief: it
+/// is refused, and nothing changes.
 pub fn superseded_return()
     ensures earlier { (problem : Problem) (old new : View) (packet : Packet) (serial attempt : ℕ)
         (returned : ChildResult)

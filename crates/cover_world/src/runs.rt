@@ -71,8 +71,9 @@ pub fn said_again()
         (published bare end ≡ Some answers.NoCover) × (over_in end 1 ≡ Some true)) }
 {}
 
-/// A node restarts while the root is out to another one: the root stays out there. The thief is told of the node's later
-/// incarnation and asks that one for work. Then the thief restarts, and the root is ready again at the next attempt.
+/// A node restarts while the root is out to another one: the root stays out there. The thief is told of the node's
+/// later incarnation and asks that one for work. Then the thief restarts, and the root is ready again at the next
+/// attempt.
 pub fn later_incarnations()
     ensures run { Plays bare (opening_world 2 limits) later_incarnations.events later_incarnations.packets (λ end.
         entry_in end 0 (Own 0) ≡ Some (record {
@@ -84,8 +85,8 @@ pub fn later_incarnations()
         })) }
 {}
 
-/// One item with four options. The second node is given two children of the root with one packet, which comes twice: the second
-/// time it is ignored. The cover of the first child ends the search; the other child's guest is dropped.
+/// One item with four options. The second node is given two children of the root with one packet, which comes twice:
+/// the second time it is ignored. The cover of the first child ends the search; the other child's guest is dropped.
 pub fn given_together()
     ensures run { Plays four_ways (opening_world 2 limits) siblings.events siblings.packets (λ end.
         (published four_ways end ≡ Some (answers.Cover (0 ∷ [])))

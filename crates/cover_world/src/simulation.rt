@@ -14,9 +14,9 @@ use crate::world_event::WorldEvent;
 use rand_pcg::Pcg32;
 use std::alloc::AllocError;
 
-/// Lets a world go on by chance: draws events, so many at most, until an answer is published; each is tried, and passed over
-/// where it is refused. So many restarts are drawn at most. Where nothing is published then, every node restarts and
-/// greets the registry, and the first one asks it for work and searches that with the greatest fuel.
+/// Lets a world go on by chance: draws events, so many at most, until an answer is published; each is tried, and passed
+/// over where it is refused. So many restarts are drawn at most. Where nothing is published then, every node restarts
+/// and greets the registry, and the first one asks it for work and searches that with the greatest fuel.
 ///
 /// The only error is out of memory; the world then stands where it was met, at the end of a run from where it began.
 #[tactic(auto, using(crate::proofs::Reached::goes_on))]
@@ -45,7 +45,8 @@ fn is_answered(world: &World) -> bool
     world.published().is_some()
 }
 
-/// So many turns, of which those change nothing that come once an answer is published; answers the restarts that are left.
+/// So many turns, of which those change nothing that come once an answer is published; answers the restarts that are
+/// left.
 #[tactic(auto, using(crate::proofs::Reached::goes_on))]
 fn play(
     world: &mut World,

@@ -33,11 +33,11 @@ use spawn_frame::{Job, Unit, UnitView};
 use std::alloc::{AllocError, Global};
 use std::marker::Model;
 
-/// The registry and the nodes of a search as one thing that runs: the cores of their sites, and all packets that were ever
-/// sent. Each node may name 1,000,000 children in each of its incarnations.
+/// The registry and the nodes of a search as one thing that runs: the cores of their sites, and all packets that were
+/// ever sent. Each node may name 1,000,000 children in each of its incarnations.
 ///
-/// Losses, repeats and other orders of the packets are its caller's choice: a packet that was sent may be delivered at any
-/// time, any number of times, or never.
+/// Losses, repeats and other orders of the packets are its caller's choice: a packet that was sent may be delivered at
+/// any time, any number of times, or never.
 #[derive(Drop)]
 pub struct World<'a> {
     sites: Sites<'a>,
@@ -64,7 +64,8 @@ impl<'a> Model for World<'a> {
 }
 
 impl<'a> World<'a> {
-    /// The registry and 1 to 16 nodes, all in their first incarnation, and nothing sent. The only error is out of memory.
+    /// The registry and 1 to 16 nodes, all in their first incarnation, and nothing sent. The only error is out of
+    /// memory.
     pub fn start(alloc: Global, problem: &'a Problem, nodes: u8) -> Result<World<'a>, AllocError>
         requires some { 1 ≤ nodes }
         requires most { nodes ≤ LAST_NODE }
@@ -81,12 +82,12 @@ impl<'a> World<'a> {
 
     /// Lets one event happen, and answers what its site does; a node that restarts answers `Moved`.
     ///
-    /// The first of these that holds is the fault: `NoSuchPacket`, where no packet of that number was sent; `NoSuchNode`,
-    /// where the node that acts or restarts isn't there; `OldIncarnation`, where the registry would restart, or a
-    /// node under an incarnation that isn't above its present one; `Core`, where the site refuses the event. A job that
-    /// isn't the site's is refused before anything is searched for. `Memory` comes only where memory ran out, and where no
-    /// other fault is due; only for the search of a job and for the copy of a packet memory is taken before the rest is
-    /// tested. A fault changes nothing.
+    /// The first of these that holds is the fault: `NoSuchPacket`, where no packet of that number was sent;
+    /// `NoSuchNode`, where the node that acts or restarts isn't there; `OldIncarnation`, where the registry would
+    /// restart, or a node under an incarnation that isn't above its present one; `Core`, where the site refuses the
+    /// event. A job that isn't the site's is refused before anything is searched for. `Memory` comes only where memory
+    /// ran out, and where no other fault is due; only for the search of a job and for the copy of a packet memory is
+    /// taken before the rest is tested. A fault changes nothing.
     pub fn step(&mut self, event: WorldEvent) -> Result<Reply, WorldFault>
         ensures problem { self.new.problem ≡ self.old.problem }
         ensures step { IfOk result (λ reply.
@@ -157,7 +158,8 @@ impl<'a> World<'a> {
         Ok(done)
     }
 
-    /// Lets one event happen, or passes it over where it is refused: whether it was a step. The only error is out of memory.
+    /// Lets one event happen, or passes it over where it is refused: whether it was a step. The only error is out of
+    /// memory.
     #[tactic(auto, using(crate::proofs::WorldSteps::event_may_tell))]
     pub(crate) fn pass(&mut self, event: WorldEvent) -> Result<bool, WorldFault>
         ensures problem { self.new.problem ≡ self.old.problem }

@@ -1,4 +1,5 @@
-//! The nodes of an option cover their items one after the other; an item that has its colour already is not covered again.
+//! The nodes of an option cover their items one after the other; an item that has its colour already is not covered
+//! again.
 //!
 //! `commit` is Knuth's name (TAOCP 7.2.2.1, Algorithm C). His purified nodes get a negative colour, so that later
 //! options know that the item has its colour. Here each item counts the chosen options that gave it one: the first
@@ -64,8 +65,8 @@ pub fn uncover_one(layout: &Layout, board: &mut Board, start: usize, node: usize
     board.uncommit(layout, node);
 }
 
-/// Lets a node cover its item in place of another one of its column, which covered it last, and put what it hid on the trail from
-/// a place on. Where neither has a colour, nothing changes.
+/// Lets a node cover its item in place of another one of its column, which covered it last, and put what it hid on the
+/// trail from a place on. Where neither has a colour, nothing changes.
 pub fn recommit(layout: &Layout, board: &mut Board, start: usize, last: usize, next: usize)
     requires last { (layout.now.heads + layout.now.heads ≤ last + 1) × (last < layout.now.tails) }
     requires next { (layout.now.heads + layout.now.heads ≤ next + 1) × (next < layout.now.tails) }
@@ -127,8 +128,8 @@ pub fn uncover_others(layout: &Layout, board: &mut Board, start: usize, node: us
     board.uncommit_others(layout, node);
 }
 
-/// Lets the nodes of a node's option cover their items: itself first, then the others from the next one on. Answers the top of
-/// the trail once it did.
+/// Lets the nodes of a node's option cover their items: itself first, then the others from the next one on. Answers the
+/// top of the trail once it did.
 pub fn cover_from(layout: &Layout, board: &mut Board, node: usize) -> usize
     requires node { (layout.now.heads + layout.now.heads ≤ node + 1) × (node < layout.now.tails) }
     requires lawful { IsLawful layout.now board.old }
@@ -141,7 +142,8 @@ pub fn cover_from(layout: &Layout, board: &mut Board, node: usize) -> usize
     // (for what the getter says: that the table is lawful)
     let _heads = layout.heads();
     commit(layout, board, node);
-    // (above it on the trail is what the other items hide: without colours only that goes back for the item's next option)
+    // (above it on the trail is what the other items hide: without colours only that goes back for the item's next
+    // option)
     let middle = board.out();
     cover_others(layout, board, node);
     middle

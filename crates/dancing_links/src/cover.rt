@@ -1,5 +1,5 @@
-//! Covering of items: their keys get a mark, and the options that name them leave the columns of their other items, but for those
-//! that give an item the colour that it gets.
+//! Covering of items: their keys get a mark, and the options that name them leave the columns of their other items, but
+//! for those that give an item the colour that it gets.
 //!
 //! This is Knuth's `cover` with `hide` (TAOCP 7.2.2.1), and his `purify` for colours. There are three differences. An
 //! item leaves no list of items: its key is marked. Each node that leaves goes on a trail, so uncovering reads the
@@ -17,8 +17,8 @@ use crate::keys::{count_less, count_more, turn_mark};
 use crate::layout::{Layout, Rows};
 use crate::link::Link;
 
-/// Takes the other nodes of a node's option out of their columns, the one to the right first, and puts them on top of the trail;
-/// answers its new top.
+/// Takes the other nodes of a node's option out of their columns, the one to the right first, and puts them on top of
+/// the trail; answers its new top.
 #[inline(always)]
 #[tactic(auto, unfolding(crate::specs::Covering::others))]
 fn hide(
@@ -53,8 +53,8 @@ fn hide(
     top
 }
 
-/// Covers an item that gets no colour: marks its key, and takes all options that name it out of the columns of their other items;
-/// answers the new top of the trail.
+/// Covers an item that gets no colour: marks its key, and takes all options that name it out of the columns of their
+/// other items; answers the new top of the trail.
 pub fn cover(
     layout: &Layout,
     links: &mut [Link],
@@ -81,7 +81,8 @@ pub fn cover(
     turn_mark(keys, item);
     let mut top = top;
     let mut node = links[item].down as usize;
-    // (columns are no rings: numbers rise down to the tail, which bounds the walk, and no proof needs a case for the wrap)
+    // (columns are no rings: numbers rise down to the tail, which bounds the walk, and no proof needs a case for the
+    // wrap)
     while node < tails {
         top = hide(&rows, links, keys, trail, top, node);
         // (the node is still in its column: hiding took out the other nodes of its option alone)
@@ -90,8 +91,8 @@ pub fn cover(
     top
 }
 
-/// Covers the item of a node with a colour, which the item gets: marks its key, and takes the options that name it without that
-/// colour out of the columns of their other items; answers the new top of the trail.
+/// Covers the item of a node with a colour, which the item gets: marks its key, and takes the options that name it
+/// without that colour out of the columns of their other items; answers the new top of the trail.
 pub fn purify(
     layout: &Layout,
     links: &mut [Link],
@@ -125,7 +126,8 @@ pub fn purify(
     let mut top = top;
     let mut other = links[item].down as usize;
     while other < tails {
-        // (nodes that agree stay as they are; Knuth's program marks each of them, here the item counts how often it got its colour)
+        // (nodes that agree stay as they are; Knuth's program marks each of them, here the item counts how often it got
+        // its colour)
         if !rows.has_colour(other, colour) {
             top = hide(&rows, links, keys, trail, top, other);
         }

@@ -1,5 +1,6 @@
-//! One key for each item: from low to high its number, how many nodes of its column are in, and whether it is covered. So the
-//! uncovered item with fewest live options, the first of those, has the least key, which a pass without a branch finds.
+//! One key for each item: from low to high its number, how many nodes of its column are in, and whether it is covered.
+//! So the uncovered item with fewest live options, the first of those, has the least key, which a pass without a branch
+//! finds.
 //!
 //! Of equal counts the lower item wins by the same comparison, as the order of the search wants it. Knuth walks the
 //! list of items and keeps the best; a pass over all keys, covered ones too, was faster (`bench/TRIED.md`).
@@ -102,8 +103,8 @@ fn least_after(start: u32, keys: &[u32]) -> u32
     least
 }
 
-/// The least of some keys; where there is none, the greatest number of 32 bits. It takes them eight at a time, and last the last
-/// eight, of which some may have been among those before.
+/// The least of some keys; where there is none, the greatest number of 32 bits. It takes them eight at a time, and last
+/// the last eight, of which some may have been among those before.
 pub fn least_of(keys: &[u32]) -> u32
     ensures { result ≡ least_from 4294967295 keys.now }
 {

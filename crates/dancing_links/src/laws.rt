@@ -7,8 +7,8 @@ ghost use Rattle.dancing_links.specs.declared.link.Link.{Link as LinkValue};
 ghost use Rattle.dancing_links.specs.Choices.{IsLinks};
 ghost use Rattle.dancing_links.specs.Columns.{Columns, column_of};
 
-/// Links of one problem in which the same options are chosen in the same order, each by the same item, are equal in every
-/// link: so undoing a choice restores every link.
+/// Links of one problem in which the same options are chosen in the same order, each by the same item, are equal in
+/// every link: so undoing a choice restores every link.
 pub fn links_by_choices()
     ensures { (problem : ProblemValue) (columns others : Columns) (chosen entries nodes : List ℕ)
         (links more : List LinkValue) (keys tallies : List ℕ) (room space : ℕ) →
@@ -17,8 +17,8 @@ pub fn links_by_choices()
         map (column_of columns) entries ≡ map (column_of others) nodes → links ≡ more }
 {}
 
-/// Links of one problem in which the same options are chosen in the same order, each by its first primary item, are equal
-/// in every link. All choices of links on which only `build`, `choose` and `undo` were called are such.
+/// Links of one problem in which the same options are chosen in the same order, each by its first primary item, are
+/// equal in every link. All choices of links on which only `build`, `choose` and `undo` were called are such.
 pub fn links_by_options()
     ensures { (problem : ProblemValue) (columns others : Columns) (chosen entries nodes : List ℕ)
         (links more : List LinkValue) (keys tallies : List ℕ) (room space : ℕ) →

@@ -1,5 +1,5 @@
-//! Which column and which option each node belongs to, which colour it has, and the two lines by which it leaves its column and
-//! comes back.
+//! Which column and which option each node belongs to, which colour it has, and the two lines by which it leaves its
+//! column and comes back.
 
 ghost use Rattle.std.specs.Prelude.{◌≡◌, ◌==◌, ◌<◌, ◌≤◌, ◌+◌, ◌++◌, length, map, replicate, slice_index, IfOk};
 ghost use Rattle.std.specs.List.{range_with_len, concat, All};
@@ -313,7 +313,8 @@ impl Layout {
     }
 }
 
-/// A layout and what stands at its nodes, taken out of it once: a loop that writes links need not read it again from memory.
+/// A layout and what stands at its nodes, taken out of it once: a loop that writes links need not read it again from
+/// memory.
 ///
 /// Contracts see it as the layout.
 #[derive(Drop)]

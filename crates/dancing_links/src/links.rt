@@ -148,8 +148,9 @@ impl<'a> Links<'a> {
         Some(option)
     }
 
-    /// Chooses, in place of the option that was chosen last, the next one that was live and names the item by which that one was
-    /// chosen. The item stays covered, in the colour that the option gives it. Answers the option; where none follows, the choice is taken back.
+    /// Chooses, in place of the option that was chosen last, the next one that was live and names the item by which
+    /// that one was chosen. The item stays covered, in the colour that the option gives it. Answers the option; where
+    /// none follows, the choice is taken back.
     #[inline(always)]
     pub fn choose_next(&mut self) -> Option<u16>
         requires { 0 < length self.old.chosen }
@@ -241,7 +242,8 @@ impl<'a> Links<'a> {
 
     /// The first uncovered primary item; none where all are covered.
     ///
-    /// With `next_item` the uncovered items can be walked through in the order of the file. A search asks for its branch item instead.
+    /// With `next_item` the uncovered items can be walked through in the order of the file. A search asks for its
+    /// branch item instead.
     pub fn first_item(&self) -> Option<u16>
         ensures first { result ≡ slice_get (open_items_from self.now.problem self.now.chosen 0) 0 }
         ensures uncovered { IfSome result (IsOpen self.now.problem self.now.chosen) }
@@ -284,8 +286,8 @@ fn primary_node(layout: &Layout, problem: &Problem, option: u16) -> usize
     layout.node_below(problem.primary(), begin, end)
 }
 
-/// Whether a node without a colour is the last one of its column that is in. While it covers its item, covering others doesn't
-/// change that.
+/// Whether a node without a colour is the last one of its column that is in. While it covers its item, covering others
+/// doesn't change that.
 #[inline(always)]
 fn is_last(layout: &Layout, links: &[Link], node: usize) -> bool
     requires node { (layout.now.heads + layout.now.heads ≤ node + 1) × (node < layout.now.tails) }

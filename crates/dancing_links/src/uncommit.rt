@@ -47,8 +47,8 @@ pub fn uncommit(layout: &Layout, keys: &mut [u32], commits: &mut [u32], node: us
     }
 }
 
-/// Takes the marks off the items that the other nodes of a node's option covered, the next one first: they are different items,
-/// so the order does not matter.
+/// Takes the marks off the items that the other nodes of a node's option covered, the next one first: they are
+/// different items, so the order does not matter.
 #[inline(always)]
 pub fn uncommit_others(layout: &Layout, keys: &mut [u32], commits: &mut [u32], node: usize)
     requires node { (layout.now.heads + layout.now.heads ≤ node + 1) × (node < layout.now.tails) }

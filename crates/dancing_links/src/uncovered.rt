@@ -18,7 +18,8 @@ impl<'a> Links<'a> {
         let problem = self.problem();
         // (for what the getter says: that there are at most 1,000)
         let items = problem.items();
-        // (with secondary items a key needs the live options: links have no list of them, so each look would have to make one)
+        // (with secondary items a key needs the live options: links have no list of them, so each look would have to
+        // make one)
         if problem.primary() == items {
             items.div_ceil(WORD)
         } else {
@@ -26,7 +27,8 @@ impl<'a> Links<'a> {
         }
     }
 
-    /// Writes which items are uncovered, if all are primary and the words are as many as their bits take. Answers whether it did.
+    /// Writes which items are uncovered, if all are primary and the words are as many as their bits take. Answers
+    /// whether it did.
     pub fn write_uncovered(&self, words: &mut [u64]) -> bool
         ensures { IsTrue result → IsKey self.now.problem self.now.chosen words.new }
     {

@@ -11,8 +11,8 @@ use brancher::{Kept, Kernel, Tables, Watch};
 use std::alloc::{AllocError, Global};
 use std::marker::Model;
 
-/// A search of a whole problem for its first cover, without a limit of visits. It keeps states that it found to have no cover, and goes past
-/// them when it meets them again.
+/// A search of a whole problem for its first cover, without a limit of visits. It keeps states that it found to have no
+/// cover, and goes past them when it meets them again.
 #[derive(Drop)]
 pub struct Decider<'a> {
     kernel: Kernel<'a>,
@@ -35,8 +35,8 @@ impl<'a> Model for Decider<'a> {
 }
 
 impl<'a> Decider<'a> {
-    /// A search that has not begun, by the kernel that the tables are for, with room for states in at most so many bytes; where that is
-    /// refused, in fewer. The only error is out of memory.
+    /// A search that has not begun, by the kernel that the tables are for, with room for states in at most so many
+    /// bytes; where that is refused, in fewer. The only error is out of memory.
     pub fn new(alloc: Global, tables: &'a Tables<'a>, room: u64) -> Result<Decider<'a>, AllocError>
         ensures problem { IfOk result (λ s. s.problem ≡ tables.now) }
         ensures found { IfOk result (λ s. s.found ≡ []) }
@@ -55,7 +55,8 @@ impl<'a> Decider<'a> {
         self.decide_traced(watch, &mut Untraced)
     }
 
-    /// Does what `decide` does, and the trace hears of each step. The trace hears of all searches of this decider, or of none.
+    /// Does what `decide` does, and the trace hears of each step. The trace hears of all searches of this decider, or
+    /// of none.
     pub fn decide_traced<W: Watch, T: Trace>(&mut self, watch: &mut W, trace: &mut T) -> Decision
         requires { self.old.found ≡ [] }
         ensures problem { self.new.problem ≡ self.old.problem }

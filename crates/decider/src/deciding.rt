@@ -13,8 +13,8 @@ use crate::trace::Trace;
 use brancher::{Kept, Watch};
 use choices::Branching;
 
-/// Decides whether there is a cover below the chosen options. They come back, or are the first cover. The trace hears of each step. It counts
-/// the prefixes that it comes to in `steps`.
+/// Decides whether there is a cover below the chosen options. They come back, or are the first cover. The trace hears
+/// of each step. It counts the prefixes that it comes to in `steps`.
 pub fn decide<B: Branching, W: Watch, T: Trace>(
     state: &mut B,
     watch: &mut W,

@@ -55,14 +55,15 @@ fn answer_of(alloc: Global, text: &[u8], problem: &Problem) -> Result<Answer, An
 
 /// The answer that a text gives for a problem.
 ///
-/// Lines and words are those of problem files, but there are no comments. The first line that isn't blank is `none`,
-/// or `cover` and the number of options in one to five decimal digits. As many lines follow that aren't blank, each
-/// with the names of an option's items in its order, each with a `:` and the name of its colour where it has one. Of equal
-/// options, those with the same items and colours, a line means the one of lowest number that no earlier line means. The
-/// options of a cover stand in the order of their lines.
+/// Lines and words are those of problem files, but there are no comments. The first line that isn't blank is `none`, or
+/// `cover` and the number of options in one to five decimal digits. As many lines follow that aren't blank, each with
+/// the names of an option's items in its order, each with a `:` and the name of its colour where it has one. Of equal
+/// options, those with the same items and colours, a line means the one of lowest number that no earlier line means.
+/// The options of a cover stand in the order of their lines.
 ///
 /// A fault is the first of these: `BadHead`, `WrongCount`, then `UnknownOption` of the first such line. `Memory` comes
-/// only where a growth was refused. Beside the text it takes memory of the order of the problem, and of the longest line.
+/// only where a growth was refused. Beside the text it takes memory of the order of the problem, and of the longest
+/// line.
 pub fn read_answer(alloc: Global, text: &[u8], problem: &Problem) -> Result<Answer, AnswerFault>
     ensures answer { IfOk result (IsAnswerOf text.now problem.now) }
     ensures fault { IfErr result (λ fault.

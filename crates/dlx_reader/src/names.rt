@@ -13,8 +13,8 @@ use std::marker::Model;
 /// numbers than eight weren't measured.
 const NEAR: usize = 8;
 
-/// The names of items or of colours in their order, no two of them alike, of which there are at most 10,000. Each is found by some
-/// ten comparisons, whatever the names are.
+/// The names of items or of colours in their order, no two of them alike, of which there are at most 10,000. Each is
+/// found by some ten comparisons, whatever the names are.
 #[derive(Drop)]
 pub struct Names<'a> {
     list: Vec<Name>,
@@ -94,8 +94,8 @@ impl<'a> Names<'a> {
         self.index.get(word).copied()
     }
 
-    /// The number of the item or colour with a name, as `item_named` answers it. The names from `next` on are looked at first: options
-    /// often name items in their order.
+    /// The number of the item or colour with a name, as `item_named` answers it. The names from `next` on are looked at
+    /// first: options often name items in their order.
     pub fn item_named_near(&self, next: usize, word: &[u8]) -> Option<u16>
         ensures item { result ≡ item_named self.now word.now }
         ensures within { IfSome result (λ item. item < length self.now) }

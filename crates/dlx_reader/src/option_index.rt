@@ -54,8 +54,8 @@ fn add_word(
     Ok(())
 }
 
-/// Makes the key that the words of a line give: their items, where the number of items stands for an unknown name, and behind
-/// them their colours, where a number above all does. Both lists keep their room for the next line.
+/// Makes the key that the words of a line give: their items, where the number of items stands for an unknown name, and
+/// behind them their colours, where a number above all does. Both lists keep their room for the next line.
 pub fn name_key(
     names: &Names,
     colour_names: &Names,
@@ -131,7 +131,8 @@ fn link_options<'a>(
 {
     let mut next = vec![in alloc; 0; problem.options()]?;
     let mut start = problem.options();
-    // (from the last option on: so the map has the next one of equal key when an option comes, and the lowest of each in the end)
+    // (from the last option on: so the map has the next one of equal key when an option comes, and the lowest of each
+    // in the end)
     while start > 0 {
         start -= 1;
         next[start] = link_option(problem, keys, start as u16, lowest)?;

@@ -177,8 +177,8 @@ impl<'a> KeptOptions<'a> {
     /// Keeps an option with these items of a line, or counts it as ignored where none of them is primary. Apart from
     /// `Memory`, the errors are the limits, tested in this order.
     ///
-    /// After an error the options, their colours and the number of those ignored are as before, but names of colours may have
-    /// come. Nobody sees these: reading ends at its first error, and all that was kept goes with it.
+    /// After an error the options, their colours and the number of those ignored are as before, but names of colours
+    /// may have come. Nobody sees these: reading ends at its first error, and all that was kept goes with it.
     #[tactic(auto, unfolding(crate::specs::Reading::keep_at))]
     pub fn keep(
         &mut self,

@@ -26,7 +26,8 @@ use crate::words::{begins_with_bar, split_colour, split_word};
 use cover_problem::{MOST_BYTES, MOST_ITEMS, Problem};
 use std::alloc::Global;
 
-/// For how many items of an option room is made at first: as many as the least block of the C library's allocator holds.
+/// For how many items of an option room is made at first: as many as the least block of the C library's allocator
+/// holds.
 const USUAL_ITEMS: usize = 12;
 
 /// Whether a byte stands in it that is in no name.
@@ -158,8 +159,8 @@ fn test_parts(name: &[u8], colour: Option<&[u8]>, line: usize) -> Result<(), Rea
     Ok(())
 }
 
-/// Reads the name of the item in an option's word, and whether a colour's stands behind it. A word is looked through a second
-/// time only where it has a colon, or a byte that is in no name.
+/// Reads the name of the item in an option's word, and whether a colour's stands behind it. A word is looked through a
+/// second time only where it has a colon, or a byte that is in no name.
 fn read_parts(word: &[u8], line: usize) -> Result<(&[u8], bool), ReadFault>
     ensures name { Gives (λ parts. parts.0.now) result
         (after (part_tests line (has_colon word.now) (item_part word.now) (colour_part word.now))
@@ -179,7 +180,8 @@ fn read_parts(word: &[u8], line: usize) -> Result<(&[u8], bool), ReadFault>
     Ok((word, false))
 }
 
-/// Whether an item is among others, all of which are below the bound: where options name items in their order, the bound alone decides.
+/// Whether an item is among others, all of which are below the bound: where options name items in their order, the
+/// bound alone decides.
 fn is_among(items: &[u16], bound: usize, item: u16) -> bool
     requires { All (λ i. i < bound) items.now }
     ensures { result ≡ is_in items.now item }
@@ -348,14 +350,15 @@ fn read_lines(alloc: Global, text: &[u8]) -> Result<Read, TextFault>
 
 /// Reads a problem in the general form of the inputs of Knuth's programs DLX1 and DLX2.
 ///
-/// A line ends at byte 10 or at the end of the text; words are divided by the bytes 9, 11, 12, 13 and 32. Blank lines, and
-/// lines whose first word begins with `|`, are skipped. The first other line names the items, of which those behind a word
-/// that begins with `|` are secondary. Each later line is an option, a list of different names of items; behind that of a
-/// secondary item a `:` and the name of a colour may stand. Options without a primary item are ignored, and counted.
+/// A line ends at byte 10 or at the end of the text; words are divided by the bytes 9, 11, 12, 13 and 32. Blank lines,
+/// and lines whose first word begins with `|`, are skipped. The first other line names the items, of which those behind
+/// a word that begins with `|` are secondary. Each later line is an option, a list of different names of items; behind
+/// that of a secondary item a `:` and the name of a colour may stand. Options without a primary item are ignored, and
+/// counted.
 ///
-/// An error other than out of memory is the first fault of the text in reading order, with its line counted from 1. One that no item
-/// has a name comes with the name: the first in the lines of options that no item has. Beside the text it takes memory of the order
-/// of the problem, whatever else the text has.
+/// An error other than out of memory is the first fault of the text in reading order, with its line counted from 1. One
+/// that no item has a name comes with the name: the first in the lines of options that no item has. Beside the text it
+/// takes memory of the order of the problem, whatever else the text has.
 pub fn read_text(alloc: Global, text: &[u8]) -> Result<Read, TextFault>
     ensures problem { IfOk result (λ read. IsProblemOf text.now read.problem read.ignored) }
 

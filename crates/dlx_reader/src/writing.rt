@@ -45,9 +45,9 @@ fn write_cover<W: Sink>(problem: &Problem, options: &[u16], sink: &mut W) -> Res
 
 /// Writes the text of an answer: the line `cover k` and the lines of the k options, or the line `none`.
 ///
-/// An option's line is the names of its items in its own order, each with a `:` and the name of its colour where it has one,
-/// with one space between. Each line ends with byte 10.
-/// The options of a cover are asked to ascend. No memory is taken. Lines wait to be written together, up to 4,096 bytes by one write.
+/// An option's line is the names of its items in its own order, each with a `:` and the name of its colour where it has
+/// one, with one space between. Each line ends with byte 10. The options of a cover are asked to ascend. No memory is
+/// taken. Lines wait to be written together, up to 4,096 bytes by one write.
 ///
 /// A fault comes only where a write failed. Then a beginning of the text was written, and not all of it.
 pub fn write_answer<W: Sink>(

@@ -3,15 +3,16 @@
 use crate::line::Line;
 use crate::relaxation::Relaxation;
 
-/// How many columns are looked at, if one of them gains something, before the best of them is taken: partial pricing. Of all columns the best
-/// one took up to twice as long, since each pivot then looks at all options.
+/// How many columns are looked at, if one of them gains something, before the best of them is taken: partial pricing.
+/// Of all columns the best one took up to twice as long, since each pivot then looks at all options.
 const SECTION: usize = 500;
 
 /// What a column has to gain at least: less is taken for an error of rounding. As `LEAST_PIVOT` of the simplex; chosen,
 /// not measured.
 const LEAST_GAIN: f64 = 1e-7;
 
-/// A column that may enter the basis, and how much it lowers what is missing, for each part of it that is taken: its reduced cost.
+/// A column that may enter the basis, and how much it lowers what is missing, for each part of it that is taken: its
+/// reduced cost.
 #[derive(Clone, Copy)]
 pub(crate) struct Entering {
     pub(crate) column: usize,
@@ -27,7 +28,8 @@ fn gain_of(prices: &Line, rows: &[u16]) -> f64 {
     gain
 }
 
-/// The column of most gain of some columns from one on, and then from the first one on. The number of the one is then that behind them.
+/// The column of most gain of some columns from one on, and then from the first one on. The number of the one is then
+/// that behind them.
 pub(crate) fn entering_from(
     relaxation: &Relaxation,
     prices: &Line,

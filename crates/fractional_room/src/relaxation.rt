@@ -7,8 +7,8 @@ use std::alloc::{AllocError, Global};
 /// The mark of an item that has no row.
 const NO_ROW: u16 = u16::MAX;
 
-/// The columns of the matrix, each as the rows in which it has a 1, all others being 0: first those of the options, then for each row of a
-/// secondary item the one of the part of it that no option takes.
+/// The columns of the matrix, each as the rows in which it has a 1, all others being 0: first those of the options,
+/// then for each row of a secondary item the one of the part of it that no option takes.
 #[derive(Drop)]
 pub(crate) struct Relaxation {
     /// The items that have rows, in order: primary ones, then those secondary ones that are limited.
@@ -21,8 +21,8 @@ pub(crate) struct Relaxation {
     starts: Vec<usize>,
 }
 
-/// Of each item how many options name it without a colour, but of one that some option gives a colour none: such an item may be in any number
-/// of options.
+/// Of each item how many options name it without a colour, but of one that some option gives a colour none: such an
+/// item may be in any number of options.
 fn uses_of(alloc: Global, problem: &Problem) -> Result<Row, AllocError> {
     let mut uses = Row::zeros(alloc, problem.items())?;
     for option in 0..problem.options() as u16 {
@@ -45,7 +45,8 @@ fn count_uses(uses: &mut Row, items: &[u16], colours: &[u16]) {
     }
 }
 
-/// The items that have rows: each primary one, and the secondary ones that two options name at least and none with a colour.
+/// The items that have rows: each primary one, and the secondary ones that two options name at least and none with a
+/// colour.
 fn limited_items(alloc: Global, problem: &Problem, uses: &Row) -> Result<Vec<u16>, AllocError> {
     let mut items = Vec::new(alloc);
     for item in 0..problem.items() as u16 {

@@ -9,7 +9,8 @@ use std::num::saturating_f64_to_u16;
 /// tolerances. Chosen, not measured. What it spoils is lost and never believed: rooms are added up exactly.
 const NEAR: f64 = 1e-6;
 
-/// What each of the first items needs, and for how much each of the first items has room. Nothing is proved of these numbers.
+/// What each of the first items needs, and for how much each of the first items has room. Nothing is proved of these
+/// numbers.
 #[derive(Drop)]
 pub struct Rounded {
     needs: Row,

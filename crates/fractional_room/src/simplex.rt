@@ -1,13 +1,16 @@
-//! The simplex method, in its first phase: what is missing of the primary items' options is made as little as it can be.
+//! The simplex method, in its first phase: what is missing of the primary items' options is made as little as it can
+//! be.
 //!
-//! The inverse of the basis is kept as a whole, as a line for each of its columns, in 8 bytes for each pair of rows: at most 8,000,000 for the
-//! 1,000 items of a file. The basis itself needn't be known: no column in it gains anything, and what is missing of a primary item never enters
-//! again. (Where it may, needs are 1 and rooms 2 at most before they are scaled, but in quasigroups it took up to five times as many pivots.)
+//! The inverse of the basis is kept as a whole, as a line for each of its columns, in 8 bytes for each pair of rows: at
+//! most 8,000,000 for the 1,000 items of a file. The basis itself needn't be known: no column in it gains anything, and
+//! what is missing of a primary item never enters again. (Where it may, needs are 1 and rooms 2 at most before they are
+//! scaled, but in quasigroups it took up to five times as many pivots.)
 //!
-//! All right sides are 1, so nearly every pivot would leave what is missing as it is, and the method might turn in a circle. So each is a
-//! little more, by another amount (Charnes, "Optimality and degeneracy in linear programming", 1952). Amounts up to 0.001 and up to 0.000001 took
-//! as many pivots; larger ones come near to what is missing at the end, 0.4 in one of 43 problems. Bland's rule takes no part: rounding could
-//! break its proof that the method ends, so whoever calls `pivot` counts.
+//! All right sides are 1, so nearly every pivot would leave what is missing as it is, and the method might turn in a
+//! circle. So each is a little more, by another amount (Charnes, "Optimality and degeneracy in linear programming",
+//! 1952). Amounts up to 0.001 and up to 0.000001 took as many pivots; larger ones come near to what is missing at the
+//! end, 0.4 in one of 43 problems. Bland's rule takes no part: rounding could break its proof that the method ends, so
+//! whoever calls `pivot` counts.
 
 ghost use Rattle.std.specs.Prelude.{◌≡◌};
 
@@ -22,8 +25,8 @@ use std::alloc::{AllocError, Global};
 /// says.
 const SHIFT: f64 = 1e-5;
 
-/// By how much the shift of a row differs from that of the row before it, of all the shift: the golden ratio spreads them evenly (Knuth, The Art of
-/// Computer Programming, 6.4).
+/// By how much the shift of a row differs from that of the row before it, of all the shift: the golden ratio spreads
+/// them evenly (Knuth, The Art of Computer Programming, 6.4).
 const SPREAD: f64 = 0.618_033_988_749_894_8;
 
 /// What is missing is taken for nothing from here on down: a tenth of `SHIFT`. Chosen, not measured.
@@ -92,8 +95,9 @@ fn first_levels(alloc: Global, count: usize) -> Result<Line, AllocError> {
 }
 
 impl Simplex {
-    /// The first basis of a problem's relaxation, without its inverse: `add_line` adds a line of that, once for each of `rows`, before the first
-    /// pivot. The only error is out of memory: it takes 2 bytes for each item of an option, and with its inverse 8 for each pair of items.
+    /// The first basis of a problem's relaxation, without its inverse: `add_line` adds a line of that, once for each of
+    /// `rows`, before the first pivot. The only error is out of memory: it takes 2 bytes for each item of an option,
+    /// and with its inverse 8 for each pair of items.
     pub fn new(alloc: Global, problem: &Problem) -> Result<Simplex, AllocError> {
         let relaxation = Relaxation::new(alloc, problem)?;
         let rows = relaxation.rows();
@@ -114,8 +118,8 @@ impl Simplex {
         self.relaxation.rows()
     }
 
-    /// Adds the next line of the inverse of the first basis, in which all is missing; the only error is out of memory. (All lines together take
-    /// longer than a thousandth of a second, so whoever adds them can end that.)
+    /// Adds the next line of the inverse of the first basis, in which all is missing; the only error is out of memory.
+    /// (All lines together take longer than a thousandth of a second, so whoever adds them can end that.)
     pub fn add_line(&mut self, alloc: Global) -> Result<(), AllocError> {
         let mut line = Line::zeros(alloc, self.relaxation.rows())?;
         line.put(self.inverse.len(), 1.0);
@@ -190,8 +194,9 @@ impl Simplex {
         self.levels.add_times(-part, &self.column);
     }
 
-    /// The prices so many times and rounded: needs down, rooms up. So an option whose items have as much room as they need has it still, and
-    /// all needs stay more than all rooms if the scale is large enough. The only error is out of memory.
+    /// The prices so many times and rounded: needs down, rooms up. So an option whose items have as much room as they
+    /// need has it still, and all needs stay more than all rooms if the scale is large enough. The only error is out of
+    /// memory.
     pub fn rounded(
         &self,
         alloc: Global,

@@ -1,6 +1,7 @@
 //! Marks by which a test shows where a call begins and ends, so that memory can be refused to that call from outside.
 //!
-//! A mark asks for memory of a size that nothing else asks for. `trials/refuse_growth.c` sees it, and knows the same numbers.
+//! A mark asks for memory of a size that nothing else asks for. `trials/refuse_growth.c` sees it, and knows the same
+//! numbers.
 #![tactic(auto)]
 
 ghost use Rattle.std.specs.Prelude.{◌≡◌, ◌+◌, ◌<◌, if◌then◌else◌, vec_capacity, IfOk};

@@ -15,14 +15,16 @@ use std::marker::Model;
 /// below 2^31 would do.
 const MOST_ROUNDS: u32 = 1 << 30;
 
-/// What is assumed of each option in the present round. A new round begins with nothing assumed, and without a look at the options.
+/// What is assumed of each option in the present round. A new round begins with nothing assumed, and without a look at
+/// the options.
 ///
 /// Contracts see a list: of each option whether it is assumed chosen (true) or left (false), if anything is.
 #[derive(Drop)]
 pub struct Assumptions {
     /// The number of the round, from 1.
     round: u32,
-    /// Of each option twice the number of the round in which it was last assumed left, or one more where it was assumed chosen.
+    /// Of each option twice the number of the round in which it was last assumed left, or one more where it was assumed
+    /// chosen.
     marks: Vec<u32>,
 }
 

@@ -32,8 +32,8 @@ use cover_problem::Problem;
 use std::alloc::{AllocError, Global};
 use std::marker::Model;
 
-/// Clauses that each exact cover of a problem satisfies, by their places. At first the clause of each primary item stands at the item's
-/// place. It keeps 4 bytes for each literal, and for each option 4 bytes more.
+/// Clauses that each exact cover of a problem satisfies, by their places. At first the clause of each primary item
+/// stands at the item's place. It keeps 4 bytes for each literal, and for each option 4 bytes more.
 #[derive(Drop)]
 pub struct ImpliedClauses<'a> {
     problem: &'a Problem,
@@ -128,10 +128,11 @@ impl<'a> ImpliedClauses<'a> {
         }
     }
 
-    /// Learns the clause, if it follows along the hints, and puts it at a place: one that there is, from which another clause goes, or the
-    /// next one. Returns whether it was learned. If not, nothing changes.
+    /// Learns the clause, if it follows along the hints, and puts it at a place: one that there is, from which another
+    /// clause goes, or the next one. Returns whether it was learned. If not, nothing changes.
     ///
-    /// It takes time of the order of the literals of the clauses that the hints name, and for a clash of the items of both options.
+    /// It takes time of the order of the literals of the clauses that the hints name, and for a clash of the items of
+    /// both options.
     ///
     /// # Errors
     ///
@@ -166,7 +167,8 @@ impl<'a> ImpliedClauses<'a> {
         Ok(true)
     }
 
-    /// Takes in a clause of which the caller knows that it is implied, such as that not all options of a barren prefix are chosen.
+    /// Takes in a clause of which the caller knows that it is implied, such as that not all options of a barren prefix
+    /// are chosen.
     ///
     /// # Errors
     ///

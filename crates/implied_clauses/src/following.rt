@@ -102,8 +102,9 @@ fn refutes(
     false
 }
 
-/// Returns whether the clause follows: where its literals are assumed to be false, the clauses that the hints name, in their order, leave one
-/// literal, which is assumed too, until one of them leaves none. It changes what is assumed and nothing else.
+/// Returns whether the clause follows: where its literals are assumed to be false, the clauses that the hints name, in
+/// their order, leave one literal, which is assumed too, until one of them leaves none. It changes what is assumed and
+/// nothing else.
 pub fn follows(
     problem: &Problem,
     clauses: &[Option<Clause>],

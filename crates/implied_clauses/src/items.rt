@@ -21,7 +21,8 @@ fn add_literal(slot: &mut Option<Clause>, literal: Literal) -> Result<(), AllocE
     }
 }
 
-/// Adds an option to the clause of an item, if that is primary: the others have no clause. The only error is out of memory.
+/// Adds an option to the clause of an item, if that is primary: the others have no clause. The only error is out of
+/// memory.
 #[tactic(auto, using(std::proofs::lemmas::List::set_past))]
 fn add_to_item(clauses: &mut [Option<Clause>], item: u16, option: u16) -> Result<(), AllocError>
     ensures long { length clauses.new ≡ length clauses.old }
@@ -63,7 +64,8 @@ fn empty_clauses(alloc: Global, count: usize) -> Result<Vec<Option<Clause>>, All
     Ok(clauses)
 }
 
-/// Returns the clause of each primary item, at the item's place, in one pass over the options; the only error is out of memory.
+/// Returns the clause of each primary item, at the item's place, in one pass over the options; the only error is out of
+/// memory.
 pub fn item_clauses(alloc: Global, problem: &Problem) -> Result<Vec<Option<Clause>>, AllocError>
     ensures { IfOk result (λ clauses. clauses.items ≡ item_clauses problem.now) }
 {

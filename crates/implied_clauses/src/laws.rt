@@ -45,8 +45,8 @@ pub fn barren_prefixes_are_implied_clauses()
         IsImplied problem (map (λ option. Left option) prefix) → IsBarren problem prefix }
 {}
 
-/// Where the empty clause is implied, no set of options is an exact cover, no exact cover extends any prefix, and a search of the whole
-/// problem finds none.
+/// Where the empty clause is implied, no set of options is an exact cover, no exact cover extends any prefix, and a
+/// search of the whole problem finds none.
 pub fn refuted_problems_have_no_cover()
     ensures cover { (problem : ProblemValue) (chosen : ℕ → Bool) → IsImplied problem [] →
         IsExactCover problem chosen → ⊥ }

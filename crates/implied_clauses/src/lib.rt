@@ -1,5 +1,5 @@
-//! Clauses that every exact cover of a problem satisfies. One is learned only if it follows, by unit propagation along hints, from those that
-//! are known. If the empty clause was learned, there is no exact cover.
+//! Clauses that every exact cover of a problem satisfies. One is learned only if it follows, by unit propagation along
+//! hints, from those that are known. If the empty clause was learned, there is no exact cover.
 #![tactic(auto)]
 
 mod assumptions;

@@ -178,8 +178,8 @@ impl Planes {
         self.uncovered &= !items;
     }
 
-    /// The uncovered item with the least count, the first of those, and its count, which has so many digits; none where all items are
-    /// covered.
+    /// The uncovered item with the least count, the first of those, and its count, which has so many digits; none where
+    /// all items are covered.
     #[inline(always)]
     pub fn least(&self, digits: Digits) -> Option<(u32, u32)>
         requires { (i : ℕ) → i < 64 → bit_at self.now.uncovered i ≡ 1
@@ -211,7 +211,8 @@ impl Planes {
         }
     }
 
-    /// Of items whose counts have these higher digits those with the least count, and this count, by the fourth and fifth digit.
+    /// Of items whose counts have these higher digits those with the least count, and this count, by the fourth and
+    /// fifth digit.
     #[inline(always)]
     fn least_two(&self, items: u64, high: u32) -> (u64, u32)
         requires some { 1 ≤ items }

@@ -132,7 +132,8 @@ pub fn triples(alloc: Global, size: u8) -> Result<String, AllocError> {
     Ok(head)
 }
 
-/// So many lessons of one teacher with so many periods each, one after the other, in so many periods: each with a class of its own.
+/// So many lessons of one teacher with so many periods each, one after the other, in so many periods: each with a class
+/// of its own.
 pub fn lessons(alloc: Global, lessons: u8, length: u8, periods: u8) -> Result<String, AllocError> {
     let mut text = String::new(alloc);
     for lesson in 0..lessons {

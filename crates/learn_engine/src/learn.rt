@@ -18,7 +18,8 @@ use search_engines::{
 };
 use std::alloc::{AllocError, Global};
 
-/// How a run of `learn` ended: with status 0 for a cover, 1 for none, 4 where the watch stopped it or there was no room.
+/// How a run of `learn` ended: with status 0 for a cover, 1 for none, 4 where the watch stopped it or there was no
+/// room.
 pub type LearnEnd = EngineEnd;
 
 /// Writes what a learner found, and returns how that ended: where it found nothing, for this reason.
@@ -53,8 +54,9 @@ fn found_of<L: LearnerWatch>(
     Ok(found)
 }
 
-/// Learns until it has an answer or the watch stops it, writes an exact cover, with the options in the order of the file, or `none`, or `no
-/// answer`, and returns how that ended: without an answer since the time was over, if the watch stopped it, or else since there was no room.
+/// Learns until it has an answer or the watch stops it, writes an exact cover, with the options in the order of the
+/// file, or `none`, or `no answer`, and returns how that ended: without an answer since the time was over, if the watch
+/// stopped it, or else since there was no room.
 ///
 /// # Errors
 ///
@@ -77,13 +79,14 @@ pub fn learn_problem<L: LearnerWatch, W: Sink>(
     }
 }
 
-/// Reads a problem to its end, learns until it has an answer or the watch stops it, and writes an exact cover, with the options in the order of
-/// the file, or `none`, or `no answer`.
+/// Reads a problem to its end, learns until it has an answer or the watch stops it, and writes an exact cover, with the
+/// options in the order of the file, or `none`, or `no answer`.
 ///
 /// # Errors
 ///
-/// `Read` and `Write` if that device failed, `File` with the text's first fault, and `Memory`. After `Write` a beginning of the
-/// answer's text was written, after another fault nothing. At `Memory` the source may have been read in part.
+/// `Read` and `Write` if that device failed, `File` with the text's first fault, and `Memory`. After `Write` a
+/// beginning of the answer's text was written, after another fault nothing. At `Memory` the source may have been read
+/// in part.
 pub fn learn_engine<R: Source, W: Sink, L: LearnerWatch>(
     alloc: Global,
     settings: Settings,

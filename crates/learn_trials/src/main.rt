@@ -1,9 +1,10 @@
 //! `learn_trials SEED COUNT`: learners on random problems.
 //!
-//! It draws so many problems, with secondary items and colours among them, and lets a learner look for a cover of each, with a seed that is
-//! drawn. A learner that isn't stopped has to find a cover where the search in the defined order finds one, and that there is none where that
-//! finds none. A walk that asks learners, and is stopped again and again, has to find the same first cover. It prints how many problems there were, how many have a cover, how many conflicts there were, and how many answers differ.
-//! `trials/try_learning.py` reads it.
+//! It draws so many problems, with secondary items and colours among them, and lets a learner look for a cover of each,
+//! with a seed that is drawn. A learner that isn't stopped has to find a cover where the search in the defined order
+//! finds one, and that there is none where that finds none. A walk that asks learners, and is stopped again and again,
+//! has to find the same first cover. It prints how many problems there were, how many have a cover, how many conflicts
+//! there were, and how many answers differ. `trials/try_learning.py` reads it.
 #![tactic(auto)]
 
 mod compare;

@@ -27,7 +27,8 @@ impl LearnerWatch for Halts {
     }
 }
 
-/// Walks to the end, and is stopped on the way. Each time that it is stopped it may go on for longer, so it comes to an end.
+/// Walks to the end, and is stopped on the way. Each time that it is stopped it may go on for longer, so it comes to an
+/// end.
 fn walked(walk: &mut QuestionWalk<'_>) -> Result<WalkEnd, AllocError> {
     for most in 1..u64::MAX {
         let end = walk.search(&mut Halts { looks: 0, most })?;
@@ -57,8 +58,9 @@ fn ends_so(
     Ok(is_end_of(&walk, end, outcome, found))
 }
 
-/// Whether walks find the first cover where a search found these options, and else that there is none: one asks about the problem itself,
-/// and one about the problem with those items made primary that each cover uses, if there are some. The only error is out of memory.
+/// Whether walks find the first cover where a search found these options, and else that there is none: one asks about
+/// the problem itself, and one about the problem with those items made primary that each cover uses, if there are some.
+/// The only error is out of memory.
 pub fn is_first(
     alloc: Global,
     problem: &Problem,

@@ -1,5 +1,6 @@
-//! What is learned from a conflict: the clause of its first unique implication point (Marques Silva and Sakallah, "GRASP"), made shorter by
-//! the literals that follow from others of it (Sörensson and Biere, "Minimizing learned clauses").
+//! What is learned from a conflict: the clause of its first unique implication point (Marques Silva and Sakallah,
+//! "GRASP"), made shorter by the literals that follow from others of it (Sörensson and Biere, "Minimizing learned
+//! clauses").
 
 use crate::causes::write_row;
 use crate::heap::Heap;
@@ -116,7 +117,8 @@ impl Analysis {
         Ok(())
     }
 
-    /// Resolves the literals of the last level, the latest first, until one is left: the first unique implication point. Returns it.
+    /// Resolves the literals of the last level, the latest first, until one is left: the first unique implication
+    /// point. Returns it.
     fn resolve(
         &mut self,
         layout: &Layout,
@@ -191,8 +193,8 @@ impl Analysis {
         Ok(())
     }
 
-    /// Finds what it rests on that an option was left: the causes of literals, down to those that were decided. The only error is out of
-    /// memory.
+    /// Finds what it rests on that an option was left: the causes of literals, down to those that were decided. The
+    /// only error is out of memory.
     pub fn explain(
         &mut self,
         layout: &Layout,
@@ -279,7 +281,8 @@ impl Analysis {
         Ok(false)
     }
 
-    /// Looks at the cause of an option: its literals follow, or are to be looked at later. Returns false where one doesn't follow.
+    /// Looks at the cause of an option: its literals follow, or are to be looked at later. Returns false where one
+    /// doesn't follow.
     fn follows(
         &mut self,
         layout: &Layout,
@@ -302,7 +305,8 @@ impl Analysis {
         Ok(true)
     }
 
-    /// Returns whether the literal of an option may follow from others of the clause; if that isn't known yet, it is to be looked at.
+    /// Returns whether the literal of an option may follow from others of the clause; if that isn't known yet, it is to
+    /// be looked at.
     fn may_follow(&mut self, trail: &Trail, option: u16) -> Result<bool, AllocError> {
         match self.marks.mark(option) {
             Mark::Seen | Mark::Settled | Mark::Redundant => return Ok(true),
@@ -360,7 +364,8 @@ impl Analysis {
         }
     }
 
-    /// Returns at how many levels the clause has literals (Audemard and Simon, "Predicting learnt clauses quality in modern SAT solvers").
+    /// Returns at how many levels the clause has literals (Audemard and Simon, "Predicting learnt clauses quality in
+    /// modern SAT solvers").
     pub fn glue(&mut self, trail: &Trail) -> u16 {
         self.stamp = self.stamp.wrapping_add(1);
         let mut glue = 0u16;

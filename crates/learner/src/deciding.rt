@@ -31,7 +31,8 @@ pub enum Given {
     Excluded(u16),
 }
 
-/// Looks at given options, each of which has a level of its own from the first one on, whether it was decided there or followed before.
+/// Looks at given options, each of which has a level of its own from the first one on, whether it was decided there or
+/// followed before.
 pub fn next_given(trail: &mut Trail, given: &[u16]) -> Given {
     for _ in given {
         let Some(option) = given.get(trail.level() as usize) else {

@@ -81,8 +81,8 @@ fn found_at(
     }
 }
 
-/// Searches for an exact cover until one is found, it is known that there is none, or the watch stops the search. Returns what was found and
-/// what was done.
+/// Searches for an exact cover until one is found, it is known that there is none, or the watch stops the search.
+/// Returns what was found and what was done.
 ///
 /// # Errors
 ///

@@ -1,4 +1,5 @@
-//! Options by activity: how often they took part in conflicts lately (MiniSat's form of VSIDS, "variable state independent decaying sum").
+//! Options by activity: how often they took part in conflicts lately (MiniSat's form of VSIDS, "variable state
+//! independent decaying sum").
 
 use crate::tables::{at, put};
 use std::alloc::{AllocError, Global};

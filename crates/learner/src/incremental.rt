@@ -1,5 +1,5 @@
-//! Questions with given options, one after the other, by one learner that keeps its clauses (Eén and Sörensson, "Temporal induction by
-//! incremental SAT solving").
+//! Questions with given options, one after the other, by one learner that keeps its clauses (Eén and Sörensson,
+//! "Temporal induction by incremental SAT solving").
 
 ghost use Rattle.std.specs.Prelude.{◌≡◌, true, IfOk, IfSome};
 ghost use Rattle.cover_problem.specs.Numbers.{is_in};
@@ -15,8 +15,8 @@ use cover_problem::{Numbers, Problem};
 use std::alloc::{AllocError, Global};
 use std::marker::Model;
 
-/// A learner that is asked for exact covers with given options, and keeps what it learned from one question to the next. Contracts see its
-/// problem.
+/// A learner that is asked for exact covers with given options, and keeps what it learned from one question to the
+/// next. Contracts see its problem.
 #[derive(Drop)]
 pub struct IncrementalLearner<'a> {
     alloc: Global,
@@ -103,8 +103,9 @@ impl<'a> IncrementalLearner<'a> {
         }
     }
 
-    /// Searches for an exact cover that has all given options, until one is found, it is known that there is none, or the watch stops the search.
-    /// `NoCover` says that none has all of them. Without given options it is a question for any exact cover.
+    /// Searches for an exact cover that has all given options, until one is found, it is known that there is none, or
+    /// the watch stops the search. `NoCover` says that none has all of them. Without given options it is a question for
+    /// any exact cover.
     ///
     /// # Errors
     ///

@@ -91,7 +91,8 @@ impl<'a> Model for Learner<'a> {
     ghost view = { λ l. l.proof };
 }
 
-/// Returns the activities with which a search begins: greater for options whose items have few options, and drawn among equal ones.
+/// Returns the activities with which a search begins: greater for options whose items have few options, and drawn among
+/// equal ones.
 fn first_activities(alloc: Global, layout: &Layout, seed: u64) -> Result<Vec<f64>, AllocError> {
     let mut rng = Pcg32::new(seed, 0);
     let mut activities = Vec::with_capacity(alloc, layout.options() as usize)?;
@@ -156,7 +157,8 @@ impl<'a> Learner<'a> {
         }
     }
 
-    /// Lets the kernel learn that the literals of the first level are true, those that it hasn't learned yet. Returns whether it did.
+    /// Lets the kernel learn that the literals of the first level are true, those that it hasn't learned yet. Returns
+    /// whether it did.
     fn settle<W: LearnerWatch>(&mut self, watch: &mut W) -> Result<bool, AllocError>
         ensures { self.new ≡ self.old }
     {
@@ -217,7 +219,8 @@ impl<'a> Learner<'a> {
         Ok(End::Refuted)
     }
 
-    /// Learns from a clause that is falsified, and goes back to where the learned clause says something. Returns whether the kernel took it.
+    /// Learns from a clause that is falsified, and goes back to where the learned clause says something. Returns
+    /// whether the kernel took it.
     fn learn_from<W: LearnerWatch>(
         &mut self,
         falsified: Cause,
@@ -400,8 +403,8 @@ impl<'a> Learner<'a> {
         self.analysis.collect_given(given, &mut self.given)
     }
 
-    /// Returns whether the kernel sees that no exact cover has all options that were given, where this one of them was left. The only error is
-    /// out of memory.
+    /// Returns whether the kernel sees that no exact cover has all options that were given, where this one of them was
+    /// left. The only error is out of memory.
     pub fn denies(&mut self, given: &[u16], left: u16) -> Result<bool, AllocError>
         ensures kept { self.new ≡ self.old }
         ensures barren { IfOk result (λ is_denied. is_denied ≡ true → IsBarren self.old given.now) }

@@ -1,5 +1,6 @@
-//! A search for any exact cover that learns clauses from its conflicts and begins again now and then. What it finds is true, whatever it does: a
-//! cover is counted, and that there is none is believed from the kernel of implied clauses alone.
+//! A search for any exact cover that learns clauses from its conflicts and begins again now and then. What it finds is
+//! true, whatever it does: a cover is counted, and that there is none is believed from the kernel of implied clauses
+//! alone.
 #![tactic(auto)]
 
 mod analysis;

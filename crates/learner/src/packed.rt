@@ -6,7 +6,8 @@
 
 use implied_clauses::Literal;
 
-/// A literal in one number, by which lists are read: twice its option's number, and one more where the option is left (MiniSat's form).
+/// A literal in one number, by which lists are read: twice its option's number, and one more where the option is left
+/// (MiniSat's form).
 #[derive(Clone, Copy, PartialEq, Eq)]
 pub struct Packed(u16);
 

@@ -57,8 +57,8 @@ impl LearnerWatch for Unheard {
     }
 }
 
-/// Lets the kernel learn a clause by the hints, at a place that is free. Returns the place, or none where the clause doesn't follow. The only
-/// error is out of memory.
+/// Lets the kernel learn a clause by the hints, at a place that is free. Returns the place, or none where the clause
+/// doesn't follow. The only error is out of memory.
 fn learn_written<W: LearnerWatch>(
     kernel: &mut ImpliedClauses<'_>,
     free: &mut Vec<u32>,
@@ -133,8 +133,8 @@ impl<'a> Proof<'a> {
         Hint::Clause(at(&self.units, option as usize, NO_PLACE))
     }
 
-    /// Lets the kernel learn a clause by the hints. Returns the clause's place, or none where it doesn't follow. The only error is out of
-    /// memory.
+    /// Lets the kernel learn a clause by the hints. Returns the clause's place, or none where it doesn't follow. The
+    /// only error is out of memory.
     pub fn learn<W: LearnerWatch>(
         &mut self,
         alloc: Global,
@@ -155,7 +155,8 @@ impl<'a> Proof<'a> {
         )
     }
 
-    /// Returns whether the kernel sees along the hints that no exact cover has all of these options. The only error is out of memory.
+    /// Returns whether the kernel sees along the hints that no exact cover has all of these options. The only error is
+    /// out of memory.
     pub fn denies(
         &mut self,
         alloc: Global,

@@ -198,7 +198,8 @@ fn follow(
     visit_watches(layout, assigned, watches, store, literal.negated())
 }
 
-/// Makes true all that follows from what is true. Returns a clause that is falsified, if one is; then some that follows may be left out.
+/// Makes true all that follows from what is true. Returns a clause that is falsified, if one is; then some that follows
+/// may be left out.
 pub fn propagate(
     layout: &Layout,
     assigned: &mut Assignment,

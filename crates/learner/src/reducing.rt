@@ -19,8 +19,8 @@ use std::alloc::{AllocError, Global};
 /// clauses"). Not measured here.
 const KEPT_GLUE: u16 = 2;
 
-/// A clause that may be dropped: how many levels below 2^16 it has fewer, in which conflict it was used last, and its number. The least is
-/// the worst.
+/// A clause that may be dropped: how many levels below 2^16 it has fewer, in which conflict it was used last, and its
+/// number. The least is the worst.
 type Candidate = (u16, u64, u32);
 
 /// Returns whether the clause is the cause of a literal.

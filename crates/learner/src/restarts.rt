@@ -6,8 +6,8 @@
 /// The unit of the sequence, in conflicts: measured on timetables and quasigroups.
 const UNIT: u64 = 64;
 
-/// The sequence 1, 1, 2, 1, 1, 2, 4, .. of Luby, Sinclair and Zuckerman ("Optimal speedup of Las Vegas algorithms"), by Knuth's pair of
-/// numbers (TAOCP 7.2.2.2, "reluctant doubling").
+/// The sequence 1, 1, 2, 1, 1, 2, 4, .. of Luby, Sinclair and Zuckerman ("Optimal speedup of Las Vegas algorithms"), by
+/// Knuth's pair of numbers (TAOCP 7.2.2.2, "reluctant doubling").
 #[derive(Clone, Copy)]
 pub struct Restarts {
     first: u64,

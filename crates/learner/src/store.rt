@@ -16,13 +16,15 @@ pub struct Learned {
     length: u32,
     /// The place of the clause in the kernel.
     pub place: u32,
-    /// At how many levels its literals became false when it was learned (Audemard and Simon's "literals blocks distance").
+    /// At how many levels its literals became false when it was learned (Audemard and Simon's "literals blocks
+    /// distance").
     pub glue: u16,
     /// The number of the conflict in which it was used last.
     pub used: u64,
 }
 
-/// Of a literal: 2 bytes here, twice while the clauses are moved together and twice since lists grow, and 4 in the kernel.
+/// Of a literal: 2 bytes here, twice while the clauses are moved together and twice since lists grow, and 4 in the
+/// kernel.
 const LITERAL_BYTES: u64 = 12;
 
 /// Of a clause: its numbers, two nodes of its watches, and its place in the kernel. An estimate from above, not
@@ -78,8 +80,8 @@ impl Store {
         self.clauses.len()
     }
 
-    /// Returns how many bytes the clauses take at most, here and in the kernel together: lists that grow have up to twice the room that
-    /// they need.
+    /// Returns how many bytes the clauses take at most, here and in the kernel together: lists that grow have up to
+    /// twice the room that they need.
     pub fn bytes(&self) -> u64 {
         let literals = (self.literals.len() as u64).wrapping_mul(LITERAL_BYTES);
         let clauses = (self.clauses.len() as u64).wrapping_mul(CLAUSE_BYTES);
@@ -166,7 +168,8 @@ impl Store {
         }
     }
 
-    /// Gives back the room of the literals of clauses that were dropped. The only error is out of memory; then nothing changes.
+    /// Gives back the room of the literals of clauses that were dropped. The only error is out of memory; then nothing
+    /// changes.
     pub fn compact(&mut self, alloc: Global) -> Result<(), AllocError> {
         let mut literals = Vec::with_capacity(alloc, self.literals.len())?;
         for clause in self.clauses.iter_mut() {

@@ -1,6 +1,7 @@
 //! Reads and writes of lists by number. A number that a list doesn't have is read as a given value, and not written.
 //!
-//! That the searcher's numbers are right isn't proved: nothing rests on it, since the kernel tests each clause, and each cover is counted.
+//! That the searcher's numbers are right isn't proved: nothing rests on it, since the kernel tests each clause, and
+//! each cover is counted.
 
 /// Returns the element with this number, or the given value where there is none.
 #[inline(always)]

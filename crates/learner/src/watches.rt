@@ -1,8 +1,8 @@
-//! For each literal the learned clauses that watch it: two literals of each clause are watched, and only where one of them becomes
-//! false the clause is looked at (Moskewicz and others, "Chaff").
+//! For each literal the learned clauses that watch it: two literals of each clause are watched, and only where one of
+//! them becomes false the clause is looked at (Moskewicz and others, "Chaff").
 //!
-//! Each clause has two nodes, one for each of its first two literals, which are linked by literals (as in PicoSAT), so that nothing
-//! is allocated where a watch moves.
+//! Each clause has two nodes, one for each of its first two literals, which are linked by literals (as in PicoSAT), so
+//! that nothing is allocated where a watch moves.
 
 ghost use Rattle.std.specs.Prelude.{◌≤◌};
 

@@ -35,8 +35,8 @@ enum Kind {
     Stopped,
 }
 
-/// Small problems: the one of Knuth's paper "Dancing Links", the same without a cover, colours that agree and that don't, secondary items alone, an
-/// item in no option.
+/// Small problems: the one of Knuth's paper "Dancing Links", the same without a cover, colours that agree and that
+/// don't, secondary items alone, an item in no option.
 static SMALL: [(&str, Kind); 7] = [
     (
         "a b c d e f g\nc e\na d g\nb c f\na d f\nb g\nd e g\n",
@@ -72,8 +72,8 @@ fn kind_found(found: &Found) -> Kind {
     }
 }
 
-/// Questions to one learner, one after the other, of the first of the small problems, whose one cover has the options 0, 3 and 4; an option may be
-/// given twice, and 6 is no option.
+/// Questions to one learner, one after the other, of the first of the small problems, whose one cover has the options
+/// 0, 3 and 4; an option may be given twice, and 6 is no option.
 static QUESTIONS: [(&[u16], Kind); 10] = [
     (&[3], Kind::Cover),
     (&[1], Kind::NoCover),

@@ -41,7 +41,8 @@ fn go_on<B: Branching>(state: &mut B) -> Option<u16> {
     onward(state)
 }
 
-/// Of each visit of a search, of at most so many, the branch item, `u16::MAX` for none, and the option that is chosen next.
+/// Of each visit of a search, of at most so many, the branch item, `u16::MAX` for none, and the option that is chosen
+/// next.
 fn visits<B: Branching>(alloc: Global, state: &mut B, most: u16) -> Result<Vec<u16>, AllocError> {
     let mut seen = Vec::new(alloc);
     for _ in 0..most {
@@ -140,7 +141,8 @@ fn five_items(alloc: Global, options: u32) -> Result<String, AllocError> {
     Ok(text)
 }
 
-/// Many options over few items: counted by up to eight digits where each item has at most 255, and in keys where one has 256.
+/// Many options over few items: counted by up to eight digits where each item has at most 255, and in keys where one
+/// has 256.
 #[test]
 fn many(rt: HostRuntime) -> Result<(), Fail> {
     let alloc = rt.alloc();
@@ -176,7 +178,8 @@ fn ring(alloc: Global, items: u32) -> Result<String, AllocError> {
     Ok(text)
 }
 
-/// As many items as one word of bits holds, and two words, and one more than these: counted in keys only in the last case.
+/// As many items as one word of bits holds, and two words, and one more than these: counted in keys only in the last
+/// case.
 #[test]
 fn words_of_items(rt: HostRuntime) -> Result<(), Fail> {
     let alloc = rt.alloc();

@@ -27,8 +27,8 @@ pub enum Counts {
 }
 
 impl Counts {
-    /// Room for all levels, and the counts of the empty prefix, whose live options are given, with the least key. The only error is
-    /// out of memory.
+    /// Room for all levels, and the counts of the empty prefix, whose live options are given, with the least key. The
+    /// only error is out of memory.
     pub fn build(
         alloc: Global,
         sets: &OptionSets,
@@ -67,7 +67,8 @@ impl Counts {
         Ok((Counts::Halves(low, high), least_item(least, other)))
     }
 
-    /// Makes the counts of a level from those of the level before it, where one more option was chosen; answers the least key.
+    /// Makes the counts of a level from those of the level before it, where one more option was chosen; answers the
+    /// least key.
     #[inline(always)]
     pub fn push(&mut self, sets: &OptionSets, step: ChoiceStep) -> u32
         requires counts { AreCounts sets.now step.chosen.now self.old }

@@ -30,8 +30,8 @@ pub fn count_row(row: &[Word], live: &[u64]) -> u32
     count
 }
 
-/// Counts the live options of each uncovered item, in order, and answers the least key: at an item that has none it stops, since
-/// it is the branch item.
+/// Counts the live options of each uncovered item, in order, and answers the least key: at an item that has none it
+/// stops, since it is the branch item.
 pub fn count_rows(sets: &OptionSets, live: &[u64], keys: &mut [u32]) -> u32
     requires lawful { IsProblem sets.now }
     requires live { length live.now ≡ words_of sets.now }

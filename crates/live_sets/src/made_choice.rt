@@ -8,7 +8,8 @@ use option_sets::Word;
 
 /// A choice that was made: by which item, and what can be chosen in its place.
 ///
-/// What can be chosen is held by its parts, beside the item: as a value of its own it would be padded, and each choice writes one.
+/// What can be chosen is held by its parts, beside the item: as a value of its own it would be padded, and each choice
+/// writes one.
 #[derive(Clone, Copy)]
 pub struct MadeChoice<'a> {
     /// The item.

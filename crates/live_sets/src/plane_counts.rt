@@ -23,7 +23,8 @@ use item_planes::{Digits, Planes};
 use option_sets::{OptionSets, word_below};
 use std::alloc::{AllocError, Global};
 
-/// How many live options name each of 64 primary items at each level, and which of these each option names, as bits of a word.
+/// How many live options name each of 64 primary items at each level, and which of these each option names, as bits of
+/// a word.
 #[derive(Drop)]
 pub struct PlaneCounts {
     /// The first one of the items.
@@ -54,8 +55,8 @@ pub fn is_small(sets: &OptionSets, live: &[u64]) -> bool
 }
 
 impl PlaneCounts {
-    /// Room for all levels, and the counts of the empty prefix, whose live options are given, for the items from a first one on; with
-    /// the least. The only error is out of memory.
+    /// Room for all levels, and the counts of the empty prefix, whose live options are given, for the items from a
+    /// first one on; with the least. The only error is out of memory.
     pub fn build(
         alloc: Global,
         sets: &OptionSets,
@@ -84,8 +85,8 @@ impl PlaneCounts {
         ))
     }
 
-    /// Makes the counts of a level from those of the level before it, where one more option was chosen; answers the uncovered item with
-    /// the least count, and that count.
+    /// Makes the counts of a level from those of the level before it, where one more option was chosen; answers the
+    /// uncovered item with the least count, and that count.
     #[inline(always)]
     pub fn push(&mut self, sets: &OptionSets, step: ChoiceStep) -> Option<(u32, u32)>
         requires counts { ArePlaneCounts sets.now step.chosen.now self.old }
@@ -104,8 +105,8 @@ impl PlaneCounts {
         least_from(&next, self.first, digits)
     }
 
-    /// The counts of a level once one more option is chosen, whose items are not covered yet: counted from the start, or from the last ones, which
-    /// have so many digits.
+    /// The counts of a level once one more option is chosen, whose items are not covered yet: counted from the start,
+    /// or from the last ones, which have so many digits.
     #[inline(always)]
     fn next_planes(
         &self,
@@ -141,8 +142,9 @@ impl PlaneCounts {
 
 /// From how many choices on it is likely that fewer options stay live than leave.
 ///
-/// Say that an option names k items, and that u are uncovered. An option stays if it names none of the k that a choice covers, with a
-/// chance of (1 - k/u)^k, which is about 1/2 where u is 3/2 k². Of n items so many are uncovered behind n/k - 3/2 k choices.
+/// Say that an option names k items, and that u are uncovered. An option stays if it names none of the k that a choice
+/// covers, with a chance of (1 - k/u)^k, which is about 1/2 where u is 3/2 k². Of n items so many are uncovered behind
+/// n/k - 3/2 k choices.
 fn turn_of(sets: &OptionSets) -> usize {
     let problem = sets.problem();
     // (options that give an item colours may agree, so where there are colours secondary items don't count)
@@ -205,8 +207,8 @@ fn count_live(
     planes.complement()
 }
 
-/// Takes the options that are live before one more is chosen, and not then, from the counts of their items, which have so many
-/// digits.
+/// Takes the options that are live before one more is chosen, and not then, from the counts of their items, which have
+/// so many digits.
 #[inline(always)]
 fn take_gone(
     sets: &OptionSets,
@@ -263,8 +265,8 @@ fn least_from(planes: &Planes, first: u16, digits: Digits) -> Option<(u32, u32)>
     }
 }
 
-/// A key of the item that has the lesser count, in the lower half or the upper one: the item alone, since only the branch item is
-/// asked for.
+/// A key of the item that has the lesser count, in the lower half or the upper one: the item alone, since only the
+/// branch item is asked for.
 #[inline(always)]
 pub fn least_item(low: Option<(u32, u32)>, high: Option<(u32, u32)>) -> u32
     ensures { (problem : ProblemValue) (prefix : List ℕ) → problem.primary ≤ 128

@@ -102,7 +102,8 @@ impl<'a> LiveSets<'a> {
         let item = self.branch_item()?;
         let live = self.levels.live_at(self.sets, self.chosen.len());
         let untried = Untried::of_row(self.sets.row(item));
-        // (live options say which items are uncovered only if each of those has one; each has one if the branch item does)
+        // (live options say which items are uncovered only if each of those has one; each has one if the branch item
+        // does)
         untried.next(live)?;
         Some(live)
     }
@@ -121,8 +122,8 @@ impl<'a> LiveSets<'a> {
         }
     }
 
-    /// Writes the key of the chosen options, if the words are as many as it has and the branch item has a live option. Answers whether it
-    /// did.
+    /// Writes the key of the chosen options, if the words are as many as it has and the branch item has a live option.
+    /// Answers whether it did.
     #[inline(always)]
     pub fn write_key(&self, words: &mut [u64]) -> bool
         ensures { IsTrue result → IsKey self.now.problem self.now.chosen words.new }
@@ -158,8 +159,8 @@ impl<'a> LiveSets<'a> {
         self.push(option, MadeChoice::new(item, untried));
     }
 
-    /// Chooses the first live option that names an uncovered item, by that item. Answers the option; where there is none, nothing
-    /// changes.
+    /// Chooses the first live option that names an uncovered item, by that item. Answers the option; where there is
+    /// none, nothing changes.
     #[inline(always)]
     pub fn choose_first(&mut self, item: u16) -> Option<u16>
         requires item { item < length self.old.problem.names }
@@ -173,8 +174,8 @@ impl<'a> LiveSets<'a> {
         self.take(MadeChoice::new(item, untried))
     }
 
-    /// Chooses, in place of the option that was chosen last, the next one that was live and names the item by which that one was
-    /// chosen. Answers the option; where none follows, the choice is taken back.
+    /// Chooses, in place of the option that was chosen last, the next one that was live and names the item by which
+    /// that one was chosen. Answers the option; where none follows, the choice is taken back.
     #[inline(always)]
     pub fn choose_next(&mut self) -> Option<u16>
         requires { 0 < length self.old.chosen }

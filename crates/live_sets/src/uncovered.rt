@@ -13,7 +13,8 @@ use item_planes::Planes;
 /// How many bits a word has.
 pub const WORD: usize = 64;
 
-/// Writes the items whose keys aren't those of covered ones, if the words are as many as that takes. Answers whether it did.
+/// Writes the items whose keys aren't those of covered ones, if the words are as many as that takes. Answers whether it
+/// did.
 #[tactic(auto, using(crate::proofs::Uncovering::marked_tells))]
 pub fn write_unmarked(keys: &[u32], words: &mut [u64]) -> bool
     ensures { IsTrue result → (problem : Problem) (prefix : List ℕ) → AreMarked problem prefix keys.now

@@ -5,7 +5,8 @@ ghost use Rattle.live_sets.specs.Trying.{AreBehind, IsTrying, IsBehind, IsFirstW
 
 use option_sets::Word;
 
-/// Options that name an item and are not tried yet, in file order: the lowest bits of a word first, then the words behind it.
+/// Options that name an item and are not tried yet, in file order: the lowest bits of a word first, then the words
+/// behind it.
 #[derive(Clone, Copy)]
 pub struct Untried<'a> {
     /// Which word of the set.
@@ -74,7 +75,8 @@ impl<'a> Untried<'a> {
     }
 }
 
-/// The first word of a row in which an option is live, without the other options of that word; none where there is none.
+/// The first word of a row in which an option is live, without the other options of that word; none where there is
+/// none.
 pub fn first_word<'a>(row: &'a [Word], live: &[u64]) -> Option<Untried<'a>>
     requires { AreBehind (length live.now) row.now }
     ensures { IsFirstWord row.now live.now result }

@@ -64,8 +64,8 @@ fn links<'a, 'b>(
     Ok(links)
 }
 
-/// The answer of a run's end, if it is believed: the registry has counted a cover, and where it found none the audit of the books says
-/// whether they are one run of the world. The only error is out of memory.
+/// The answer of a run's end, if it is believed: the registry has counted a cover, and where it found none the audit of
+/// the books says whether they are one run of the world. The only error is out of memory.
 #[tactic(auto, using(crate::proofs::Settling::none_is_settled, crate::proofs::Settling::cover_is_settled))]
 fn settled<J: Run>(
     alloc: Global,
@@ -113,9 +113,10 @@ fn run_named<J: Run + Send + Sync, R: Threads + Wait + Clock + Sync>(
     }
 }
 
-/// Searches the problem by one node with so many workers, which have threads of their own, and a registry; all of them are in this
-/// process and speak over memory, so nobody else is heard. Returns the answer that the registry published, if it is one to believe; none
-/// once `over` is raised, soon after, or where the run can't go on. The only error is out of memory.
+/// Searches the problem by one node with so many workers, which have threads of their own, and a registry; all of them
+/// are in this process and speak over memory, so nobody else is heard. Returns the answer that the registry published,
+/// if it is one to believe; none once `over` is raised, soon after, or where the run can't go on. The only error is out
+/// of memory.
 pub fn run_in_memory<R: Threads + Wait + Clock + Sync>(
     rt: &R,
     alloc: Global,

@@ -38,8 +38,8 @@ impl Wakers {
     }
 }
 
-/// The end of a site on wires in memory, whose receives wait for some milliseconds. Once the run is over each receive fails, which ends
-/// the site, and with it the run.
+/// The end of a site on wires in memory, whose receives wait for some milliseconds. Once the run is over each receive
+/// fails, which ends the site, and with it the run.
 #[derive(Drop)]
 pub struct WaitingLink<'a, 'b> {
     end: MemoryLink,

@@ -2,9 +2,9 @@
 //!
 //! Of the bugs of `run_key` that are kept outside the gate, `keys_are_drawn_whole` finds `half_of_a_key_is_drawn`.
 //!
-//! Of the bugs of `site_network` that are kept outside the gate, `a_stranger_is_not_heard` finds `opens_nothing` and `hears_without_a_code`,
-//! `receives_wait` finds `receives_never_wait`, `hastened_receives_do_not_wait` finds `the_end_is_not_hastened`, and
-//! `each_of_sixteen_nodes_is_reached` finds `sends_reach_four_nodes`.
+//! Of the bugs of `site_network` that are kept outside the gate, `a_stranger_is_not_heard` finds `opens_nothing` and
+//! `hears_without_a_code`, `receives_wait` finds `receives_never_wait`, `hastened_receives_do_not_wait` finds
+//! `the_end_is_not_hastened`, and `each_of_sixteen_nodes_is_reached` finds `sends_reach_four_nodes`.
 
 use run_key::RunKey;
 use site_network::{Link, LinkFault, MemoryLink, Sockets, UdpLink, Wires, bound};
@@ -23,8 +23,8 @@ const SENT: u8 = 20;
 /// How many receives a site waits for them at most.
 const TURNS: u32 = 100_000;
 
-/// Keys, messages and their codes: the five test cases of RFC 4231 whose keys are no longer than a block, which are filled up with zeros,
-/// and of each HMAC by SHA-256 the first sixteen bytes.
+/// Keys, messages and their codes: the five test cases of RFC 4231 whose keys are no longer than a block, which are
+/// filled up with zeros, and of each HMAC by SHA-256 the first sixteen bytes.
 static CODES: [(&[u8], &[u8], [u8; 16]); 5] = [
     (
         &[0x0b; 20],
@@ -79,7 +79,8 @@ fn filled_up(bytes: &[u8]) -> RunKey {
     RunKey::new(key)
 }
 
-/// Whether a datagram of this message has this code, and is opened with this key alone, and only as long as no byte of it is another.
+/// Whether a datagram of this message has this code, and is opened with this key alone, and only as long as no byte of
+/// it is another.
 fn is_sealed(bytes: &[u8], message: &[u8], code: &[u8]) -> bool {
     let key = filled_up(bytes);
     let mut room = [0; 80];
@@ -283,7 +284,8 @@ fn the_longest_datagram(rt: HostRuntime) -> Result<(), Fail> {
     Ok(())
 }
 
-/// Whether the first site hears these bytes of a stranger as a datagram of no bytes, and the next of the other site as ever.
+/// Whether the first site hears these bytes of a stranger as a datagram of no bytes, and the next of the other site as
+/// ever.
 fn is_strange<R: Net + Wait>(
     rt: &R,
     sockets: &Arc<Sockets, Global>,

@@ -182,8 +182,8 @@ impl SiteState {
         Ok(Reply::Moved)
     }
 
-    /// A guest is wanted no more, since its owner refused its result or aborted it: it is dropped, and the thieves below
-    /// are told.
+    /// A guest is wanted no more, since its owner refused its result or aborted it: it is dropped, and the thieves
+    /// below are told.
     pub fn receive_refuse(
         &mut self,
         from: Site,

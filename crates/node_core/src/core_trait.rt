@@ -42,8 +42,8 @@ pub trait Core {
     /// Where its memory comes from.
     fn allocator(&self) -> Global;
 
-    /// Takes an event, and puts its packets out, as `act` and `act_both` do. After a fault the site is as it was, but the lists
-    /// may have more packets than before: those calls take them back.
+    /// Takes an event, and puts its packets out, as `act` and `act_both` do. After a fault the site is as it was, but
+    /// the lists may have more packets than before: those calls take them back.
     fn answer(&mut self, event: Event, out: &mut Outgoing) -> Result<Reply, ActFault>
         requires { IsFit (problem self.old) event }
         ensures problem { problem self.new ≡ problem self.old }
@@ -55,8 +55,8 @@ pub trait Core {
 
     /// Takes an event, and appends its packets to the list.
     ///
-    /// It is refused exactly where the machine has no step of it, with the first fault that the event meets; `Memory` comes
-    /// only where memory ran out. A fault changes nothing.
+    /// It is refused exactly where the machine has no step of it, with the first fault that the event meets; `Memory`
+    /// comes only where memory ran out. A fault changes nothing.
     fn act(&mut self, event: Event, out: &mut Vec<Packet>) -> Result<Reply, ActFault>
         requires { IsFit (problem self.old) event }
         ensures problem { problem self.new ≡ problem self.old }

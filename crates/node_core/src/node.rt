@@ -57,8 +57,8 @@ impl<'a> Model for NodeCore<'a> {
 impl<'a> NodeCore<'a> {
     ghost use Rattle.node_core.specs.Acting.{opening_core};
 
-    /// A node that begins, one of 1 to 16, in an incarnation from 1 on: it has no units yet, knows the first incarnation of
-    /// the registry and of every node, and may name so many children. The only error is out of memory.
+    /// A node that begins, one of 1 to 16, in an incarnation from 1 on: it has no units yet, knows the first
+    /// incarnation of the registry and of every node, and may name so many children. The only error is out of memory.
     pub fn start(
         alloc: Global,
         problem: &'a Problem,

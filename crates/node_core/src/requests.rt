@@ -65,8 +65,8 @@ impl SiteState {
         }
     }
 
-    /// Says again what may have been lost: a Give for each child that is out, by serial, then a Return for each finished
-    /// guest, in order.
+    /// Says again what may have been lost: a Give for each child that is out, by serial, then a Return for each
+    /// finished guest, in order.
     pub fn again(&self, out: &mut Outgoing) -> Result<Reply, ActFault>
         ensures step { Answered result out.old out.new (λ reply sent.
             (sent ≡ all_again self.now) × (reply ≡ moved_by sent)) }

@@ -141,7 +141,8 @@ impl SiteState {
             unreachable!();
         };
         let table = self.ledger.table();
-        // (`spawn` tests it, too, but only after memory was taken for this list, and this fault goes before that of memory)
+        // (`spawn` tests it, too, but only after memory was taken for this list, and this fault goes before that of
+        // memory)
         if ((table.names_limit() - table.issued()) as usize) < links.count(item) {
             return Err(ActFault::NamesSpent);
         }
@@ -150,8 +151,8 @@ impl SiteState {
         Ok(options)
     }
 
-    /// Gives a settled frame its result; a guest's goes to its owner, and the thieves below are told that their children
-    /// are wanted no more.
+    /// Gives a settled frame its result; a guest's goes to its owner, and the thieves below are told that their
+    /// children are wanted no more.
     pub fn finish(&mut self, unit: Unit, out: &mut Outgoing) -> Result<Reply, ActFault>
         ensures step { Answered result out.old out.new (λ reply sent.
             (reply ≡ Reply.Moved) × FinishStep self.old unit sent self.new) }

@@ -1,4 +1,5 @@
-//! Tests of the threads of a run and of the links between its sites. Nothing else is here, since a crate with tests is proved twice.
+//! Tests of the threads of a run and of the links between its sites. Nothing else is here, since a crate with tests is
+//! proved twice.
 #![tactic(auto)]
 
 #[cfg(test)]

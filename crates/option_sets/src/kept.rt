@@ -12,8 +12,8 @@ use std::alloc::{AllocError, Global};
 /// of options. Chosen, not measured.
 const MOST_KEPT: usize = 8192;
 
-/// Of each option the set of those that it leaves, one behind the other, or of a large problem an empty list. The only error is
-/// out of memory.
+/// Of each option the set of those that it leaves, one behind the other, or of a large problem an empty list. The only
+/// error is out of memory.
 pub fn kept_sets(alloc: Global, tables: &ClashTables) -> Result<Vec<u64>, AllocError>
     ensures { IfOk result (λ kept. AreKept tables.now kept.items) }
 {

@@ -1,5 +1,5 @@
-//! Sets of the options of an exact cover problem, 64 options to a word: which options name an item, and which ones an option
-//! leaves when it is chosen. They are built once for a problem and never changed.
+//! Sets of the options of an exact cover problem, 64 options to a word: which options name an item, and which ones an
+//! option leaves when it is chosen. They are built once for a problem and never changed.
 #![tactic(auto)]
 
 mod clash_tables;

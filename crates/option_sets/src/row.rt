@@ -40,7 +40,8 @@ impl Row {
         &self.words
     }
 
-    /// Adds an option that comes after all others of the set. The only error is out of memory, and the set is then as before.
+    /// Adds an option that comes after all others of the set. The only error is out of memory, and the set is then as
+    /// before.
     pub fn add(&mut self, option: u16) -> Result<(), AllocError>
         ensures ok { OnOk result ((n : ℕ) (has : ℕ → Bool) → n ≤ option + 1 → IsRowBy n has self.old
             → IsRowBy (option + 1) (λ x. has x || x == option) self.new) }

@@ -15,8 +15,8 @@ use cover_problem::Numbers;
 use spawn_frame::{Attempt, Cause, ChildResult, Siblings, Site};
 use std::alloc::AllocError;
 
-/// What a packet says. The child of a `Return` is of the receiver's site; that of a `Give`, `Accept`, `Refuse` or `Abort`,
-/// and those of a `GiveMany`, are of the sender's. Children go by their serial number there and the attempt.
+/// What a packet says. The child of a `Return` is of the receiver's site; that of a `Give`, `Accept`, `Refuse` or
+/// `Abort`, and those of a `GiveMany`, are of the sender's. Children go by their serial number there and the attempt.
 #[derive(Clone, Debug, Drop, PartialEq, Eq)]
 pub enum Body {
     /// A node tells the registry that it is there.

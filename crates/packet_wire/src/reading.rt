@@ -424,10 +424,10 @@ fn whole_packet(alloc: Global, bytes: &[u8]) -> Result<Packet, WireFault>
 
 /// Reads the packet that the bytes are, all of them, as `write_packet` writes it.
 ///
-/// An error other than `Memory` is the first fault from left to right: at each field `Short` where the bytes end before the
-/// field does, and then `Magic`, `Version`, `Kind` or `Field` where its value is not allowed. A count, and each number of a
-/// list, is a field. That the two sites go with the kind is tested behind the header, as a field of no bytes. Memory is
-/// taken for the list alone.
+/// An error other than `Memory` is the first fault from left to right: at each field `Short` where the bytes end before
+/// the field does, and then `Magic`, `Version`, `Kind` or `Field` where its value is not allowed. A count, and each
+/// number of a list, is a field. That the two sites go with the kind is tested behind the header, as a field of no
+/// bytes. Memory is taken for the list alone.
 pub fn read_packet(alloc: Global, bytes: &[u8]) -> Result<Packet, WireFault>
     // What is read is well-formed, and spelled so.
     ensures found { IfOk result (λ packet.

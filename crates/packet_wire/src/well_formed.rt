@@ -196,11 +196,11 @@ fn is_body(body: &Body) -> bool
 
 /// Whether the packet has a spelling.
 ///
-/// Its sites are two of the registry and the nodes 1 to 16, with incarnations from 1 on and exactly 1 for the registry, and
-/// go with the kind: a Hello is for the registry, a Members or Over from it, a Steal or Return from a node, and each other
-/// packet for a node. Attempts and incarnations are at least 1; a Members has 1 to 16 of them. Lists have at most 1,000
-/// numbers of options, each at most 19,999, and a cover at least one. A GiveMany goes from a node to a node; it has 2 to 8
-/// children, whose serials rise, and the prefix of their parent has at most 999 options.
+/// Its sites are two of the registry and the nodes 1 to 16, with incarnations from 1 on and exactly 1 for the registry,
+/// and go with the kind: a Hello is for the registry, a Members or Over from it, a Steal or Return from a node, and
+/// each other packet for a node. Attempts and incarnations are at least 1; a Members has 1 to 16 of them. Lists have at
+/// most 1,000 numbers of options, each at most 19,999, and a cover at least one. A GiveMany goes from a node to a node;
+/// it has 2 to 8 children, whose serials rise, and the prefix of their parent has at most 999 options.
 pub fn is_well_formed(packet: &Packet) -> bool
     ensures { result ≡ is_well_formed packet.now }
 {

@@ -244,15 +244,15 @@ fn spelling_of(alloc: Global, packet: &Packet) -> Result<Vec<u8>, AllocError>
 
 /// Appends the bytes of a well-formed packet, of which there are at most 2,095.
 ///
-/// A header of 14 bytes has the magic `43 4e`, the version, the kind, and of the sender and the receiver each the node in
-/// one byte and the incarnation in four. The version is 1 and the kind a number from 1 to 10 in the order of [`Body`], where
-/// a `GiveMany` shares the number of `Give` and has the version 2.
+/// A header of 14 bytes has the magic `43 4e`, the version, the kind, and of the sender and the receiver each the node
+/// in one byte and the incarnation in four. The version is 1 and the kind a number from 1 to 10 in the order of
+/// [`Body`], where a `GiveMany` shares the number of `Give` and has the version 2.
 ///
-/// The body follows: of `Members` the count in one byte and the incarnations in four each; of `GiveMany` the count of the
-/// children in one byte, the parent's prefix, and of each child the serial number and the attempt in four bytes each and the
-/// option in two; of the others that name a child its serial number and the attempt in four bytes each, and then the prefix,
-/// the result, or the cause from 1 to 3. A list of options has its count and each number in two bytes; a result is the byte 0
-/// for none, or 1 and the list of the cover. The highest byte of a number is first.
+/// The body follows: of `Members` the count in one byte and the incarnations in four each; of `GiveMany` the count of
+/// the children in one byte, the parent's prefix, and of each child the serial number and the attempt in four bytes
+/// each and the option in two; of the others that name a child its serial number and the attempt in four bytes each,
+/// and then the prefix, the result, or the cause from 1 to 3. A list of options has its count and each number in two
+/// bytes; a result is the byte 0 for none, or 1 and the list of the cover. The highest byte of a number is first.
 ///
 /// The only error is out of memory. The list is then as it was.
 pub fn write_packet(alloc: Global, packet: &Packet, out: &mut Vec<u8>) -> Result<(), AllocError>

@@ -10,7 +10,8 @@ use crate::walk_end::{Step, WalkEnd};
 use learner::{Found, IncrementalLearner, LearnerWatch};
 use std::alloc::AllocError;
 
-/// Asks the learner whether an exact cover begins with the chosen options, and goes on by what it says. The only error is out of memory.
+/// Asks the learner whether an exact cover begins with the chosen options, and goes on by what it says. The only error
+/// is out of memory.
 fn ask<W: LearnerWatch>(
     walk: &mut Walk<'_>,
     learner: &mut IncrementalLearner<'_>,
@@ -48,7 +49,8 @@ fn turn<W: LearnerWatch>(
     }
 }
 
-/// Goes on to the first cover, or until it is known that there is none, or the watch stops the learner. The only error is out of memory.
+/// Goes on to the first cover, or until it is known that there is none, or the watch stops the learner. The only error
+/// is out of memory.
 pub(crate) fn go_on<W: LearnerWatch>(
     walk: &mut Walk<'_>,
     learner: &mut IncrementalLearner<'_>,

@@ -7,7 +7,8 @@ ghost use Rattle.cover_problem.specs.Problem.{Problem as ProblemValue};
 ghost use Rattle.cover_problem.specs.Search.{first};
 ghost use Rattle.question_walk.specs.Walks.{AreBarren};
 
-/// Where no exact cover extends an earlier child of a prefix, and one extends this child, the first cover of the prefix is that of the child.
+/// Where no exact cover extends an earlier child of a prefix, and one extends this child, the first cover of the prefix
+/// is that of the child.
 pub fn first_cover_of_a_child()
     ensures { (problem : ProblemValue) (prefix child cover : List ℕ) (earlier later : List (List ℕ)) →
         is_prefix problem prefix ≡ true → children problem prefix ≡ earlier ++ child ∷ later →

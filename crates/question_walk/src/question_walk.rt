@@ -13,8 +13,8 @@ use learner::{Figures, IncrementalLearner, LearnerWatch, Settings};
 use std::alloc::{AllocError, Global};
 use std::marker::Model;
 
-/// A walk to the first cover of a problem, with the learner that it asks. It can be stopped and goes on later from where it stood, with all
-/// that the learner has learned. Contracts see the problem and the chosen options.
+/// A walk to the first cover of a problem, with the learner that it asks. It can be stopped and goes on later from
+/// where it stood, with all that the learner has learned. Contracts see the problem and the chosen options.
 #[derive(Drop)]
 pub struct QuestionWalk<'a> {
     walk: Walk<'a>,
@@ -49,8 +49,8 @@ impl<'a> QuestionWalk<'a> {
         QuestionWalk::asking(alloc, problem, problem, settings)
     }
 
-    /// A walk that has chosen nothing, with a learner of another problem with the same exact covers, such as one in which further items are
-    /// primary since each cover uses them. The only error is out of memory.
+    /// A walk that has chosen nothing, with a learner of another problem with the same exact covers, such as one in
+    /// which further items are primary since each cover uses them. The only error is out of memory.
     pub fn asking(
         alloc: Global,
         problem: &'a Problem,

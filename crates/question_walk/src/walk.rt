@@ -13,8 +13,8 @@ use dancing_links::Links;
 use std::alloc::{AllocError, Global};
 use std::marker::Model;
 
-/// Where a walk to the first cover stands. The options before the last one are the beginning of the first cover, if there is one; so is the
-/// last one, if it isn't in question.
+/// Where a walk to the first cover stands. The options before the last one are the beginning of the first cover, if
+/// there is one; so is the last one, if it isn't in question.
 #[derive(Drop)]
 pub(crate) struct Walk<'a> {
     links: Links<'a>,
@@ -88,8 +88,8 @@ impl<'a> Walk<'a> {
         }
     }
 
-    /// Chooses the first live option of the branch item, which is in question then. Without a branch item the chosen options are the first
-    /// cover.
+    /// Chooses the first live option of the branch item, which is in question then. Without a branch item the chosen
+    /// options are the first cover.
     fn descend(&mut self) -> Step
         requires { self.old.asked ≡ None }
         ensures problem { self.new.problem ≡ self.old.problem }
@@ -123,7 +123,8 @@ impl<'a> Walk<'a> {
         self.cover = Some(cover);
     }
 
-    /// Hears that no exact cover begins with the chosen options. Then the next live option of the branch item is in question.
+    /// Hears that no exact cover begins with the chosen options. Then the next live option of the branch item is in
+    /// question.
     pub(crate) fn deny(&mut self) -> Step
         requires { IsBarren self.old.problem self.old.chosen }
         ensures problem { self.new.problem ≡ self.old.problem }

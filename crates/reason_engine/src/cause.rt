@@ -1,8 +1,9 @@
-//! Why a problem has no exact cover: a reason of it as it stands, with those items primary that each exact cover uses, or with items for cliques;
-//! or a reason for each option of an item, once that is chosen.
+//! Why a problem has no exact cover: a reason of it as it stands, with those items primary that each exact cover uses,
+//! or with items for cliques; or a reason for each option of an item, once that is chosen.
 //!
-//! They are looked for in this order, each only where those before it were not found: short reasons; reasons by used items; too little room by
-//! cliques; multipliers of any size; cases. What is found sooner, and is shorter to add up, comes first.
+//! They are looked for in this order, each only where those before it were not found: short reasons; reasons by used
+//! items; too little room by cliques; multipliers of any size; cases. What is found sooner, and is shorter to add up,
+//! comes first.
 
 ghost use Rattle.std.specs.Prelude.{◌≡◌, [], ◌++◌, codes, IfOk, IfSome};
 ghost use Rattle.cover_problem.specs.Prefix.{IsBarren};
@@ -30,8 +31,8 @@ pub enum Cause {
     ByCases(Cases),
 }
 
-/// A cause by the problem that was made with more items primary, if a reason of that is found before the watch ends it. The only error is out
-/// of memory. (The problem itself is there for the contract alone.)
+/// A cause by the problem that was made with more items primary, if a reason of that is found before the watch ends it.
+/// The only error is out of memory. (The problem itself is there for the contract alone.)
 fn cause_by_use<W: ReasonWatch>(
     alloc: Global,
     _problem: &Problem,
@@ -66,8 +67,9 @@ fn cause_by_used_items<W: ReasonWatch>(
     }
 }
 
-/// Why the problem has no exact cover, as it stands, with those items primary that each exact cover uses, with items for cliques of options
-/// that clash, or by cases, if that is found before the watch ends it. Where none is found there may be a cover or none. The only error is out of memory.
+/// Why the problem has no exact cover, as it stands, with those items primary that each exact cover uses, with items
+/// for cliques of options that clash, or by cases, if that is found before the watch ends it. Where none is found there
+/// may be a cover or none. The only error is out of memory.
 pub fn find_cause_until<W: ReasonWatch>(
     alloc: Global,
     problem: &Problem,

@@ -151,7 +151,8 @@ pub fn lines_of(alloc: Global, problem: &Problem, reason: &Reason) -> Result<Vec
     Ok(text)
 }
 
-/// Returns the lines of room that is just enough, and of a reason of the problem that was made by it. The only error is out of memory.
+/// Returns the lines of room that is just enough, and of a reason of the problem that was made by it. The only error is
+/// out of memory.
 pub fn promoted_lines_of(
     alloc: Global,
     problem: &Problem,
@@ -199,7 +200,8 @@ fn push_cliques(text: &mut Vec<u8>, cliques: &[Clique]) -> Result<(), AllocError
     Ok(())
 }
 
-/// Returns the lines of cliques, and of room that is too little in the problem with items for these. The only error is out of memory.
+/// Returns the lines of cliques, and of room that is too little in the problem with items for these. The only error is
+/// out of memory.
 pub fn clique_lines_of(alloc: Global, by: &RoomByCliques) -> Result<Vec<u8>, AllocError>
     ensures { IfOk result (λ text. text.items ≡ codes "cliques\n"
         ++ flat_map clique_text by.now.cliques.items

@@ -76,8 +76,9 @@ fn write_found<T: ReasonListener, W: Sink>(
     }
 }
 
-/// Looks for a reason why the problem has no exact cover, as [`find_cause_until`] does, writes it, or that none was found, and returns how that
-/// ended. It has no limit, so nothing is said of why there is no reason. The listener hears of a reason of the problem as it stands.
+/// Looks for a reason why the problem has no exact cover, as [`find_cause_until`] does, writes it, or that none was
+/// found, and returns how that ended. It has no limit, so nothing is said of why there is no reason. The listener hears
+/// of a reason of the problem as it stands.
 ///
 /// # Errors
 ///
@@ -96,13 +97,13 @@ pub fn why_problem<T: ReasonListener, W: Sink>(
     Ok(Written { status, why: None })
 }
 
-/// Reads a problem to its end, looks for a reason why it has no exact cover, and writes `none` and the reason, or `no reason found`,
-/// whether it has a cover or not.
+/// Reads a problem to its end, looks for a reason why it has no exact cover, and writes `none` and the reason, or `no
+/// reason found`, whether it has a cover or not.
 ///
 /// # Errors
 ///
-/// `Read` and `Write` if that device failed, `File` with the text's first fault, and `Memory`. After `Write` a beginning of the text
-/// was written, after another fault nothing. At `Memory` the source may have been read in part.
+/// `Read` and `Write` if that device failed, `File` with the text's first fault, and `Memory`. After `Write` a
+/// beginning of the text was written, after another fault nothing. At `Memory` the source may have been read in part.
 pub fn why_engine<R: Source, W: Sink>(
     alloc: Global,
     source: &mut R,

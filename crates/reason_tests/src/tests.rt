@@ -1,7 +1,8 @@
 //! Reasons that are found and reasons that are given by hand.
 //!
 //! Of the bugs of `cover_reasons` that are kept outside the gate, `a_watch_ends_the_search_for_a_reason` finds
-//! `weights_are_found_to_the_end` and `kinds_are_looked_at_to_the_end`, and `a_watch_ends_the_pivots` finds `pivots_are_made_to_the_end`.
+//! `weights_are_found_to_the_end` and `kinds_are_looked_at_to_the_end`, and `a_watch_ends_the_pivots` finds
+//! `pivots_are_made_to_the_end`.
 //!
 //! Of the bugs of `fractional_room` that are kept outside the gate, `small_reasons` finds `a_need_is_taken_for_room`.
 
@@ -200,13 +201,14 @@ static SMALL: [(&str, Found); 13] = [
         "a b c | x y z h\na x y\na x z\na y z\na h\nb x y\nb x z\nb y z\nb h\nc x y\nc x z\nc y z\nc h\n",
         Found::Needs(6, 5),
     ),
-    // nine cells by pieces like an L, each of which has a corner, which needs 2, and two others, with room 1, or no corner
+    // nine cells by pieces like an L, each of which has a corner, which needs 2, and two others, with room 1, or no
+    // corner
     (
         "a b c d e f g h i\na b d\na b e\na d e\nb d e\nb c e\nb c f\nb e f\nc e f\nd e g\nd e h\nd g h\ne g h\ne f h\ne f i\ne h i\nf h i\n",
         Found::Needs(8, 5),
     ),
-    // c takes Ann's Monday, d takes Bob's, so both want the room on Tuesday: a, b, c and d need 1, and Ann's and Bob's Monday and the room's
-    // Tuesday have room 1
+    // c takes Ann's Monday, d takes Bob's, so both want the room on Tuesday: a, b, c and d need 1, and Ann's and Bob's
+    // Monday and the room's Tuesday have room 1
     (
         "a b c d | A1 A2 B1 B2 T1 T2\na A1 T1\na A2 T2\nb B1 T1\nb B2 T2\nc A1\nd B1\n",
         Found::Needs(4, 3),

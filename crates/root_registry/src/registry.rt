@@ -71,8 +71,8 @@ impl<'a> Registry<'a> {
         })
     }
 
-    /// What is published: the result of the root once that is done, as a cover with its options in the order of the file,
-    /// or that there is none. Once there, it stays.
+    /// What is published: the result of the root once that is done, as a cover with its options in the order of the
+    /// file, or that there is none. Once there, it stays.
     pub fn published(&self) -> Option<&Answer>
         ensures { option_map (λ answer. answer.now) result
             ≡ published_by self.now.problem self.now.view }

@@ -82,8 +82,8 @@ pub(crate) struct Returned {
     pub(crate) result: ChildResult,
 }
 
-/// A thief returns a result: where it enters, a cover has to count right, every node is told that the search is over, and
-/// the result is published.
+/// A thief returns a result: where it enters, a cover has to count right, every node is told that the search is over,
+/// and the result is published.
 pub(crate) fn receive_return(
     state: &mut SiteState,
     publication: &mut Publication,

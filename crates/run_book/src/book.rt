@@ -69,8 +69,8 @@ impl<J: Run> Book<J> {
     }
 
     /// What the registry published, by its book: the result in the first Accept, as a cover with its options in the
-    /// order of the file, or that there is none; nothing where there is no Accept. A cover is exact. The only error is out of
-    /// memory.
+    /// order of the file, or that there is none; nothing where there is no Accept. A cover is exact. The only error is
+    /// out of memory.
     ///
     /// It asks for the registry's book, and for the problem of the book's run, which a book doesn't hold.
     pub fn answer(&self, alloc: Global, problem: &Problem) -> Result<Option<Answer>, AllocError>

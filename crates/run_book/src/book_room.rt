@@ -18,7 +18,8 @@ const PLACE: u64 = 2 * size_of::<Entry>() as u64;
 /// What a step takes by itself, without its lists: it is behind two counts of its owners.
 const STEP: u64 = BESIDE + 2 * size_of::<u64>() as u64 + size_of::<Step>() as u64;
 
-/// Returns how many bytes an entry of this step takes in its book; one that shares the step of an earlier entry takes its place alone.
+/// Returns how many bytes an entry of this step takes in its book; one that shares the step of an earlier entry takes
+/// its place alone.
 pub(crate) fn entry_bytes(step: &Step, is_shared: bool) -> u64 {
     if is_shared {
         return PLACE;

@@ -11,7 +11,8 @@ use std::alloc::{AllocError, Global};
 use std::marker::Model;
 use std::sync::ledger::Blank;
 
-/// What a cell is made of before a type stands for it. Contracts see it as its names, which the caller puts into the type.
+/// What a cell is made of before a type stands for it. Contracts see it as its names, which the caller puts into the
+/// type.
 #[derive(Drop)]
 pub struct CellParts {
     carrier: Carrier,

@@ -14,7 +14,8 @@ ghost use Rattle.run_book.specs.Sites.{opening_of, MayBeginIn, RunName, StepsAt}
 ghost use Rattle.spawn_frame.specs.declared.site.Site.{Site};
 ghost use Rattle.steal_return.specs.Ledger.{opening_ledger, root_ledger};
 
-/// Each step of a node's core is one of every site but the registry, and each of the registry's core one of the registry.
+/// Each step of a node's core is one of every site but the registry, and each of the registry's core one of the
+/// registry.
 pub fn cores_step_as_their_sites()
     ensures nodes { (node : ℕ) → 1 ≤ node → StepsAt node NodeStep }
     ensures registry { (node : ℕ) → node ≡ 0 → StepsAt node RegistryStep }

@@ -16,8 +16,8 @@ impl Run for Brand {
     ghost run = { no_run };
 }
 
-/// Names one cell: its ledger of seats, its table of receipts, its site, and the limit on its names. What carries the type is
-/// of this cell.
+/// Names one cell: its ledger of seats, its table of receipts, its site, and the limit on its names. What carries the
+/// type is of this cell.
 pub trait CellName: Ledger {
     ghost use Rattle.std.specs.Prelude.{ℕ};
     ghost use Rattle.atomic_table.specs.Seated.{TableId};

@@ -41,7 +41,8 @@ impl Prepared {
         ensures event { IfOk result (λ prepared. prepared.event ≡ event) }
         ensures back { IfErr result (λ back. back ≡ event) }
     {
-        // (the core takes the event itself, the book keeps one copy, and the other goes back to the caller, entered or refused)
+        // (the core takes the event itself, the book keeps one copy, and the other goes back to the caller, entered or
+        // refused)
         let Ok(for_book) = event.copy() else {
             return Err(event);
         };
@@ -83,7 +84,8 @@ impl AnswerRoom {
     }
 }
 
-/// How many packets an event mostly puts out. A list that grows by itself would have room for four at once, and stays in the book.
+/// How many packets an event mostly puts out. A list that grows by itself would have room for four at once, and stays
+/// in the book.
 fn packets_for(event: &Event) -> usize {
     match event {
         Event::Ask(_) | Event::Greet | Event::Redo(_) => 1,

@@ -29,7 +29,8 @@ pub struct Receipt<N: CellName> {
     pub reply: Reply,
     /// The packets that were put out, in their order.
     pub packets: Vec<Packet>,
-    /// How many bytes the entry takes in the book: little where an equal entry is there already, whose memory it shares.
+    /// How many bytes the entry takes in the book: little where an equal entry is there already, whose memory it
+    /// shares.
     pub bytes: u64,
     token: Token,
     room: PhantomData<N>,

@@ -10,8 +10,8 @@ use std::alloc::Global;
 /// How many entries are kept at most: a node of sixteen has about fifty such steps.
 const MOST: usize = 64;
 
-/// Entries that a site without work repeats, and what a busy one says again. Each equal one shares the step, so that their books grow
-/// little.
+/// Entries that a site without work repeats, and what a busy one says again. Each equal one shares the step, so that
+/// their books grow little.
 #[derive(Drop)]
 pub struct Repeated {
     entries: Vec<Entry>,
@@ -36,12 +36,14 @@ impl Repeated {
         entry_bytes(last.step(), self.is_shared)
     }
 
-    /// The entry; one that may be repeated shares its step with each equal one, or with the last if it is what is said again.
+    /// The entry; one that may be repeated shares its step with each equal one, or with the last if it is what is said
+    /// again.
     pub fn shared(&mut self, entry: Entry) -> Entry
         ensures { result ≡ entry }
     {
         self.is_shared = false;
-        // (its packets change with what is out, so it is compared with the last alone, and takes no place from idle steps)
+        // (its packets change with what is out, so it is compared with the last alone, and takes no place from idle
+        // steps)
         if entry.step().is_again() {
             return self.shared_again(entry);
         }

@@ -21,8 +21,8 @@ pub fn registry_book<J: Run>(books: &[Book<J>]) -> Option<&Book<J>>
     None
 }
 
-/// What the registry published, as its book among these says it; nothing where its book is not among them. A cover is exact,
-/// and in the order of the file. The only error is out of memory.
+/// What the registry published, as its book among these says it; nothing where its book is not among them. A cover is
+/// exact, and in the order of the file. The only error is out of memory.
 pub fn published<J: Run>(
     alloc: Global,
     problem: &Problem,

@@ -32,8 +32,8 @@ use std::sync::{Mutex, Wait};
 
 /// The core of a site with its history, under one lock.
 ///
-/// Whenever the lock is free, what it holds is a book of the site, with the core in the view to which the book leads. `J` names
-/// the run, `N` this cell.
+/// Whenever the lock is free, what it holds is a book of the site, with the core in the view to which the book leads.
+/// `J` names the run, `N` this cell.
 #[derive(Drop)]
 pub struct SiteCell<J: Run, C: Core + Drop, N: CellName> {
     site: Site,
@@ -91,9 +91,9 @@ impl<J: Run, C: Core + Drop, N: CellName> SiteCell<J, C, N> {
 
     /// Hands an event to the core. It is entered with what the core did, and the receipt says the same.
     ///
-    /// `BookFull` comes exactly where the book has as many entries as it may have. The core may refuse the event, at the view to
-    /// which the book leads then: among its entries are those that the seat counts. It then enters nothing. Where memory ran out
-    /// nothing has happened. With each fault the event comes back.
+    /// `BookFull` comes exactly where the book has as many entries as it may have. The core may refuse the event, at
+    /// the view to which the book leads then: among its entries are those that the seat counts. It then enters nothing.
+    /// Where memory ran out nothing has happened. With each fault the event comes back.
     pub fn act_at<R: Wait>(
         &self,
         rt: &R,
@@ -122,8 +122,8 @@ impl<J: Run, C: Core + Drop, N: CellName> SiteCell<J, C, N> {
 
     /// Hands an event to the core, as `act_at` does; the seat comes back in any case.
     ///
-    /// Who uses a cell as a library hands the seat over, so that nobody uses it twice at once. The threads of `solve` keep theirs, and call
-    /// `act_at`.
+    /// Who uses a cell as a library hands the seat over, so that nobody uses it twice at once. The threads of `solve`
+    /// keep theirs, and call `act_at`.
     pub fn act<R: Wait>(
         &self,
         rt: &R,
@@ -144,11 +144,13 @@ impl<J: Run, C: Core + Drop, N: CellName> SiteCell<J, C, N> {
         }
     }
 
-    /// The book, once all seats and receipts are back: each receipt stands in it at its place, and no entry is without one.
+    /// The book, once all seats and receipts are back: each receipt stands in it at its place, and no entry is without
+    /// one.
     ///
     /// Seats are counted before receipts. What is handed in comes back where something is missing. It takes no memory.
     ///
-    /// This is for who keeps receipts as a whole. The threads of `solve` keep their tokens alone, and a run calls `settle`.
+    /// This is for who keeps receipts as a whole. The threads of `solve` keep their tokens alone, and a run calls
+    /// `settle`.
     pub fn close(
         self,
         seats: Vec<Seat<N>>,
@@ -188,8 +190,8 @@ impl<J: Run, C: Core + Drop, N: CellName> SiteCell<J, C, N> {
         }
     }
 
-    /// The book, once all seats are back, and the tokens of all receipts, as `close` gives it. Where something is missing, what is
-    /// handed in is let go.
+    /// The book, once all seats are back, and the tokens of all receipts, as `close` gives it. Where something is
+    /// missing, what is handed in is let go.
     pub fn settle(
         self,
         seats: Vec<Seat<N>>,

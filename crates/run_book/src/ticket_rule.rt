@@ -1,5 +1,5 @@
-//! The rule that ties receipts to a log. Its queue carries what holders know, and never has an item. No value of these types
-//! is made.
+//! The rule that ties receipts to a log. Its queue carries what holders know, and never has an item. No value of these
+//! types is made.
 
 use crossbeam_queue::protocol::{Join, Lesson, Protocol, Split};
 use crossbeam_queue::{Pass, RuledArrayQueue};

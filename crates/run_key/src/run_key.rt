@@ -61,8 +61,8 @@ impl RunKey {
         Ok(RunKey::new(bytes))
     }
 
-    /// Writes the datagram of these bytes, which is they and their code, to the front of the room, and returns its length. There is none
-    /// where it doesn't fit.
+    /// Writes the datagram of these bytes, which is they and their code, to the front of the room, and returns its
+    /// length. There is none where it doesn't fit.
     pub fn seal(&self, bytes: &[u8], room: &mut [u8]) -> Option<usize>
         ensures sealed { MatchOption result (length room.old < length bytes.now + 16)
             (λ many. take many room.new ≡ sealed self.now.bytes bytes.now) }
@@ -77,7 +77,8 @@ impl RunKey {
         Some(many)
     }
 
-    /// Returns how many bytes at the front of a datagram were sealed by this key. There are none where its code is wrong.
+    /// Returns how many bytes at the front of a datagram were sealed by this key. There are none where its code is
+    /// wrong.
     pub fn open(&self, datagram: &[u8]) -> Option<usize>
         ensures sealed { IfSome result (λ many. datagram.now ≡ sealed self.now.bytes (take many datagram.now)) }
         ensures opens { (bytes : List ℕ) → datagram.now ≡ sealed self.now.bytes bytes → result ≡ Some (length bytes) }

@@ -14,8 +14,9 @@ pub enum Awaited {
     Guest,
 }
 
-/// A gate that lets all pass but the first job of an own child: that waits in it until the awaited post, or for so many turns. From
-/// that post on the jobs of other own children wait in it until the first one is posted, or for so many turns.
+/// A gate that lets all pass but the first job of an own child: that waits in it until the awaited post, or for so many
+/// turns. From that post on the jobs of other own children wait in it until the first one is posted, or for so many
+/// turns.
 #[derive(Drop)]
 pub struct HeldGate {
     awaited: Awaited,

@@ -1,5 +1,5 @@
-//! What tests of whole runs look through: a gate that holds a worker back, and links that keep what is sent. It is here for two crates
-//! of tests, of which one needs the engines and the other none of them.
+//! What tests of whole runs look through: a gate that holds a worker back, and links that keep what is sent. It is here
+//! for two crates of tests, of which one needs the engines and the other none of them.
 #![tactic(auto)]
 
 mod held_gate;

@@ -10,16 +10,18 @@ use crate::settings::Settings;
 pub struct Request<'a> {
     /// The settings of the run.
     pub settings: Settings<'a>,
-    /// After how many seconds a search by one thread, or a run over sockets, ends, from 1 to 1,000,000; none for no limit.
+    /// After how many seconds a search by one thread, or a run over sockets, ends, from 1 to 1,000,000; none for no
+    /// limit.
     pub seconds: Option<u32>,
-    /// How many megabytes, of a million bytes, the books of a run over sockets may take together, from 1 to 1,000,000; none for a share of the
-    /// machine's memory.
+    /// How many megabytes, of a million bytes, the books of a run over sockets may take together, from 1 to 1,000,000;
+    /// none for a share of the machine's memory.
     pub megabytes: Option<u32>,
     /// Whether it writes how far its search has come.
     pub progress: bool,
     /// Whether a search by one thread has no limit of visits.
     pub unlimited: bool,
-    /// How many threads search and learn for an answer by whatever is first, from 2 to 10; none for as many as there are processors.
+    /// How many threads search and learn for an answer by whatever is first, from 2 to 10; none for as many as there
+    /// are processors.
     pub threads: Option<u32>,
     /// Whether what an answer rests on is written behind it.
     pub reason: bool,

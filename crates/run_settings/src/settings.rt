@@ -34,7 +34,8 @@ pub struct Settings<'a> {
     pub file: &'a str,
     /// The answer's file, or `STANDARD_INPUT`, for a check alone.
     pub answer: Option<&'a str>,
-    /// How many prefixes a search may count, from 1; of a run over sockets the base by which it sets how many a job may visit.
+    /// How many prefixes a search may count, from 1; of a run over sockets the base by which it sets how many a job may
+    /// visit.
     pub fuel: u64,
     /// How many nodes there are, from 1 to 16.
     pub nodes: u8,

@@ -52,8 +52,9 @@ fn write_fueled<W: Sink>(
 ///
 /// # Errors
 ///
-/// `Read` and `Write` if that device failed, `File` with the text's first fault, and `Memory`. After `Write` a beginning of the
-/// answer's text was written, after another fault nothing. At `Memory` the source may have been read in part.
+/// `Read` and `Write` if that device failed, `File` with the text's first fault, and `Memory`. After `Write` a
+/// beginning of the answer's text was written, after another fault nothing. At `Memory` the source may have been read
+/// in part.
 #[tactic(auto, using(crate::proofs::Ended::unread_plain))]
 pub fn alone_engine<R: Source, W: Sink>(
     alloc: Global,
@@ -79,7 +80,8 @@ pub fn alone_engine<R: Source, W: Sink>(
     })
 }
 
-/// Searches under a watch until a limit is met, writes the answer, or that there is none yet, and returns how that ended.
+/// Searches under a watch until a limit is met, writes the answer, or that there is none yet, and returns how that
+/// ended.
 #[tactic(auto, using(crate::proofs::Outcomes::says_within, crate::proofs::Outcomes::output_of, crate::proofs::Given::given_why))]
 fn write_limited<V: EndWatch, W: Sink, C: Clock>(
     clock: &C,
@@ -104,15 +106,16 @@ fn write_limited<V: EndWatch, W: Sink, C: Clock>(
     write_given(problem, &given, sink)
 }
 
-/// Does what `alone_engine` does within limits: it writes the first cover, or `none`, or `no answer` once a limit is met, of visits or of
-/// time. Without a limit it decides; where visits have none, it looks for a reason that there is no cover after a hundredth of a
-/// second, shortly, and after a tenth of a second, before it searches on.
+/// Does what `alone_engine` does within limits: it writes the first cover, or `none`, or `no answer` once a limit is
+/// met, of visits or of time. Without a limit it decides; where visits have none, it looks for a reason that there is
+/// no cover after a hundredth of a second, shortly, and after a tenth of a second, before it searches on.
 ///
-/// Meanwhile it writes to the log how far the search has come, by the visits that it made itself: what lies below a state that it
-/// knows is skipped. The log changes no answer: a fault of its sink is passed over. `Memory` also comes where there is none for the
-/// estimate that a log with lines shows.
+/// Meanwhile it writes to the log how far the search has come, by the visits that it made itself: what lies below a
+/// state that it knows is skipped. The log changes no answer: a fault of its sink is passed over. `Memory` also comes
+/// where there is none for the estimate that a log with lines shows.
 ///
-/// Where there is no answer the end says which limit was met, and where the text is refused since no item has a name, the failure has that.
+/// Where there is no answer the end says which limit was met, and where the text is refused since no item has a name,
+/// the failure has that.
 #[tactic(auto, using(crate::proofs::Ended::ends_unread, crate::proofs::Ended::ends_written, crate::proofs::Ended::told_written, crate::proofs::Ended::write_failed, crate::proofs::Ended::read_well, crate::proofs::Ended::says_why))]
 pub fn alone_within<R: Source, W: Sink, E: Sink, C: Clock>(
     clock: &C,

@@ -23,7 +23,8 @@ use used_items::{WithUsedItems, with_used_items_until};
 /// How many bytes may be taken by what is learned: half of what a learner takes by default. Chosen, not measured.
 const LEARNED: u64 = 1 << 28;
 
-/// Returns the answer of a walk that has ended, with a cover's options in the order of the file. The only error is out of memory.
+/// Returns the answer of a walk that has ended, with a cover's options in the order of the file. The only error is out
+/// of memory.
 fn answer_of_walk(
     alloc: Global,
     problem: &Problem,
@@ -41,8 +42,8 @@ fn answer_of_walk(
     }
 }
 
-/// Searches the problem that the type names, in turns with a walk, until one of them has the answer or the watch stops both. The only error
-/// is out of memory.
+/// Searches the problem that the type names, in turns with a walk, until one of them has the answer or the watch stops
+/// both. The only error is out of memory.
 fn searched_in_turns<P: ForProblem, V: Watch, C: Clock>(
     clock: &C,
     alloc: Global,
@@ -63,7 +64,8 @@ fn searched_in_turns<P: ForProblem, V: Watch, C: Clock>(
     answer_of_walk(alloc, tables.problem(), turns.walk())
 }
 
-/// A walk that asks about the problem with more items primary, or about the problem itself where there is none. The only error is out of memory.
+/// A walk that asks about the problem with more items primary, or about the problem itself where there is none. The
+/// only error is out of memory.
 fn walk_over<'a>(
     alloc: Global,
     problem: &'a Problem,
@@ -82,8 +84,8 @@ fn walk_over<'a>(
     }
 }
 
-/// Searches the problem in turns with a walk, which asks about the problem with those items made primary that each exact cover uses, if some
-/// are found. It returns nothing, too, where there is no memory for a walk.
+/// Searches the problem in turns with a walk, which asks about the problem with those items made primary that each
+/// exact cover uses, if some are found. It returns nothing, too, where there is no memory for a walk.
 fn searched_asking<V: Watch, C: Clock>(
     clock: &C,
     alloc: Global,
@@ -103,7 +105,8 @@ fn searched_asking<V: Watch, C: Clock>(
     }
 }
 
-/// The problem with those items made primary that each exact cover uses, if some are found before the watch ends that and there is memory for it.
+/// The problem with those items made primary that each exact cover uses, if some are found before the watch ends that
+/// and there is memory for it.
 fn with_more_primary<V: Watch>(
     alloc: Global,
     problem: &Problem,
@@ -117,7 +120,8 @@ fn with_more_primary<V: Watch>(
     }
 }
 
-/// Does what `searched_asking` does, but now and then both rest while a reason by multipliers is looked for. One that is found ends them.
+/// Does what `searched_asking` does, but now and then both rest while a reason by multipliers is looked for. One that
+/// is found ends them.
 fn searched_at_length<V: Watch, C: Clock>(
     clock: &C,
     alloc: Global,
@@ -138,8 +142,9 @@ fn searched_at_length<V: Watch, C: Clock>(
     Ok(looking.answer(problem))
 }
 
-/// Searches the problem, in turns with a walk that asks a learner, until it is decided or the watch stops both, and returns the answer, or
-/// none where it was stopped. Now and then a reason is looked for. The only error is out of memory.
+/// Searches the problem, in turns with a walk that asks a learner, until it is decided or the watch stops both, and
+/// returns the answer, or none where it was stopped. Now and then a reason is looked for. The only error is out of
+/// memory.
 pub(crate) fn searched_and_asked<V: Watch, C: Clock>(
     clock: &C,
     alloc: Global,

@@ -37,8 +37,8 @@ impl ReasonListener for Unheard {
     fn hears(&mut self, _reason: &Reason) {}
 }
 
-/// Returns whether a reason is found why there is no cover, before the watch ends that, and lets it be heard. One that counts more items as
-/// primary isn't looked for: no line of a certificate says that.
+/// Returns whether a reason is found why there is no cover, before the watch ends that, and lets it be heard. One that
+/// counts more items as primary isn't looked for: no line of a certificate says that.
 fn is_excluded_aloud<V: Watch, T: ReasonListener>(
     alloc: Global,
     problem: &Problem,
@@ -58,8 +58,9 @@ fn is_excluded_aloud<V: Watch, T: ReasonListener>(
     is_excluded
 }
 
-/// Returns the answer that `answer_until` gives. Where there is no cover, the listener hears of what shows that: of a reason, or of each step of
-/// a search. It hears of the search that ends without an answer or finds a cover after a tenth of a second, too.
+/// Returns the answer that `answer_until` gives. Where there is no cover, the listener hears of what shows that: of a
+/// reason, or of each step of a search. It hears of the search that ends without an answer or finds a cover after a
+/// tenth of a second, too.
 ///
 /// A reason that counts more items as primary isn't looked for, so it may take longer than `answer_until` does.
 pub fn certified_until<V: Watch, T: Trace + ReasonListener, C: Clock>(
@@ -108,8 +109,9 @@ fn certified_first<V: Watch, T: Trace + ReasonListener, C: Clock>(
     }
 }
 
-/// Writes the first cover of a problem, or that there is none, or that there is no answer where the watch stopped the search since its time was
-/// over, and returns how that ended. The listener hears of what shows that there is no cover, as by `certified_until`.
+/// Writes the first cover of a problem, or that there is none, or that there is no answer where the watch stopped the
+/// search since its time was over, and returns how that ended. The listener hears of what shows that there is no cover,
+/// as by `certified_until`.
 ///
 /// # Errors
 ///

@@ -86,7 +86,8 @@ fn write_verdict<W: Sink>(
         Verdict::CoveredTwice(item) => {
             write_wrong(alloc, problem, b"wrong: CoveredTwice ", item, sink)
         }
-        // (the answer was read into options of the problem, each once, and the requirement above shows it to the prover)
+        // (the answer was read into options of the problem, each once, and the requirement above shows it to the
+        // prover)
         Verdict::NoSuchOption | Verdict::ChosenTwice => unreachable!(),
     }
 }
@@ -120,7 +121,8 @@ fn write_none_given<W: Sink>(given: &Answer, sink: &mut W) -> Result<u8, EngineF
     }
 }
 
-/// Writes whether none is right where a search gave this answer, or none in its limits, and returns the status, with why there is none.
+/// Writes whether none is right where a search gave this answer, or none in its limits, and returns the status, with
+/// why there is none.
 #[tactic(auto, using(crate::proofs::Given::none_ok, crate::proofs::Given::none_err, crate::proofs::Given::why_ok, crate::proofs::Given::why_err))]
 fn write_none_by<W: Sink>(
     given: &Result<Answer, Unanswered>,
@@ -237,9 +239,9 @@ fn write_check_within<W: Sink, C: Clock>(
 ///
 /// # Errors
 ///
-/// `Read` and `Write` if that device failed, `File` with the first fault of the problem's text, else `Answer` with that of the
-/// answer's, and `Memory`. After `Write` a beginning of the line was written, after another fault nothing. At `Memory` both sources
-/// may have been read in part.
+/// `Read` and `Write` if that device failed, `File` with the first fault of the problem's text, else `Answer` with that
+/// of the answer's, and `Memory`. After `Write` a beginning of the line was written, after another fault nothing. At
+/// `Memory` both sources may have been read in part.
 #[tactic(auto, using(crate::proofs::Ended::checks_unread_plain))]
 pub fn check_engine<R: Source, S: Source, W: Sink>(
     alloc: Global,
@@ -271,9 +273,9 @@ pub fn check_engine<R: Source, S: Source, W: Sink>(
     })
 }
 
-/// Does what `check_engine` does within limits: that there is no cover is tested by a search, and `no answer` is written once a limit is
-/// met, of visits or of time. Without a limit it decides. Where there is no answer the end says which limit was met, and where a read failed
-/// the failure says of which input.
+/// Does what `check_engine` does within limits: that there is no cover is tested by a search, and `no answer` is
+/// written once a limit is met, of visits or of time. Without a limit it decides. Where there is no answer the end says
+/// which limit was met, and where a read failed the failure says of which input.
 #[tactic(auto, using(crate::proofs::Ended::checks_unread, crate::proofs::Ended::checks_written, crate::proofs::Ended::told_written, crate::proofs::Ended::write_failed, crate::proofs::Ended::read_well, crate::proofs::Ended::not_unread, crate::proofs::Ended::says_why))]
 pub fn check_within<R: Source, S: Source, W: Sink, C: Clock>(
     clock: &C,

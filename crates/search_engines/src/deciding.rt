@@ -1,9 +1,10 @@
-//! The answer to a problem, whatever number of visits it takes: by a short search, by a reason that excludes covers, or by a long search and a
-//! walk that asks a learner.
+//! The answer to a problem, whatever number of visits it takes: by a short search, by a reason that excludes covers, or
+//! by a long search and a walk that asks a learner.
 //!
-//! A tenth of a second is searched first, then a reason is looked for, then the search begins again: so short searches don't wait for a
-//! reason, which may take most of a second, and what the short search did is little beside what may follow. In both searches a `LookingWatch` looks
-//! for a reason, too, for little time. If memory for the reason is refused, the search goes on.
+//! A tenth of a second is searched first, then a reason is looked for, then the search begins again: so short searches
+//! don't wait for a reason, which may take most of a second, and what the short search did is little beside what may
+//! follow. In both searches a `LookingWatch` looks for a reason, too, for little time. If memory for the reason is
+//! refused, the search goes on.
 
 ghost use Rattle.std.specs.Prelude.{◌≡◌, [], true, false, None, IfOk, IfSome, MatchOption};
 ghost use Rattle.cover_problem.specs.Search.{first};
@@ -21,11 +22,12 @@ use std::alloc::{AllocError, Global};
 use std::time::{Clock, Duration};
 use used_items::is_excluded_by_used_items;
 
-/// How many milliseconds a search lasts before a reason is looked for. Most searches are shorter, and to look may take most of a second.
+/// How many milliseconds a search lasts before a reason is looked for. Most searches are shorter, and to look may take
+/// most of a second.
 const SHORT: u64 = 100;
 
-/// A watch that stops a search `SHORT` after it was made. Where the clock can't be read it stops it at its first look: the search is
-/// then begun again under a watch that needs no clock.
+/// A watch that stops a search `SHORT` after it was made. Where the clock can't be read it stops it at its first look:
+/// the search is then begun again under a watch that needs no clock.
 #[derive(Drop)]
 pub(crate) struct ShortWatch<'a, C: Clock> {
     pub(crate) clock: &'a C,
@@ -57,8 +59,8 @@ impl<'a, V: Watch> ReasonWatch for RootWatch<'a, V> {
     }
 }
 
-/// Returns whether a reason is found why there is no cover, but for one by multipliers, which takes longest, before the watch ends that. Where
-/// memory runs out none is found, and that is no error: a search may need less.
+/// Returns whether a reason is found why there is no cover, but for one by multipliers, which takes longest, before the
+/// watch ends that. Where memory runs out none is found, and that is no error: a search may need less.
 pub fn is_excluded<V: Watch>(alloc: Global, problem: &Problem, watch: &mut V) -> bool
     ensures { result ≡ true → first problem.now [] ≡ None }
 {
@@ -81,8 +83,8 @@ fn is_excluded_by_use<W: ReasonWatch>(alloc: Global, problem: &Problem, watch: &
     }
 }
 
-/// Searches the problem for `SHORT` at most, and looks for a reason meanwhile. Returns the answer, or none where neither came to an end. The only
-/// error is out of memory.
+/// Searches the problem for `SHORT` at most, and looks for a reason meanwhile. Returns the answer, or none where
+/// neither came to an end. The only error is out of memory.
 fn searched_shortly<C: Clock>(
     clock: &C,
     alloc: Global,
@@ -102,10 +104,10 @@ fn searched_shortly<C: Clock>(
     Ok(looking.answer(problem))
 }
 
-/// Returns the answer of a problem: its first cover, with its options in the order of the file, or that there is none; no answer where the
-/// watch stopped the search, or it and the search for a reason. A search that lasts longer than a tenth of a second is begun again under
-/// the watch, if no reason is found that excludes a cover; from then on a walk to the first cover that asks a learner has half of the time.
-/// The only error is out of memory.
+/// Returns the answer of a problem: its first cover, with its options in the order of the file, or that there is none;
+/// no answer where the watch stopped the search, or it and the search for a reason. A search that lasts longer than a
+/// tenth of a second is begun again under the watch, if no reason is found that excludes a cover; from then on a walk
+/// to the first cover that asks a learner has half of the time. The only error is out of memory.
 pub fn answer_until<V: Watch, C: Clock>(
     clock: &C,
     alloc: Global,

@@ -16,7 +16,8 @@ pub enum Unread {
     Answer,
 }
 
-/// Why an engine stopped without an answer. It says all that an `EngineFault` does, which it turns into, and what a message names beside.
+/// Why an engine stopped without an answer. It says all that an `EngineFault` does, which it turns into, and what a
+/// message names beside.
 #[derive(Debug, Drop)]
 pub enum Failure {
     /// A read failed, of this input.

@@ -5,7 +5,8 @@ ghost use Rattle.std.specs.Prelude.{◌≤◌};
 use crate::tree_estimate::TreeEstimate;
 use std::fmt::{self, Display, Formatter, Write};
 
-/// A millionth of the tree. A forecast wants a hundred of them: with less behind it, how fast a search goes says little.
+/// A millionth of the tree. A forecast wants a hundred of them: with less behind it, how fast a search goes says
+/// little.
 const PART: u64 = TreeEstimate::WHOLE / 1_000_000;
 
 /// How many of them there have to be. Chosen, not measured.
@@ -28,9 +29,9 @@ pub struct Forecast {
 }
 
 impl Forecast {
-    /// Returns the forecast of a search that has this share of the tree behind it, of `TreeEstimate::WHOLE`, after so many seconds; none
-    /// while that is too little to judge by, and none at the end. The rest is taken to go as fast. The parts of a tree are no equal work,
-    /// so a forecast is rough, and near the end of a search often wrong.
+    /// Returns the forecast of a search that has this share of the tree behind it, of `TreeEstimate::WHOLE`, after so
+    /// many seconds; none while that is too little to judge by, and none at the end. The rest is taken to go as fast.
+    /// The parts of a tree are no equal work, so a forecast is rough, and near the end of a search often wrong.
     pub fn of(seconds: u64, share: u64) -> Option<Forecast> {
         let parts = share / PART;
         if seconds < EARLIEST || parts < LEAST {

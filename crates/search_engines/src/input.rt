@@ -22,7 +22,8 @@ const PIECE: usize = 16384;
 ///
 /// # Errors
 ///
-/// `Read` if a read failed, and `Memory`. After either the bytes that were read are lost: the source goes on behind them.
+/// `Read` if a read failed, and `Memory`. After either the bytes that were read are lost: the source goes on behind
+/// them.
 pub fn read_all<R: Source>(alloc: Global, source: &mut R) -> Result<Vec<u8>, EngineFault>
     ensures read { IfOk result (λ text.
         Consumes (R.remaining source.old) (R.remaining source.new) text.items) }
@@ -83,8 +84,8 @@ fn problem_of(alloc: Global, text: &[u8]) -> Result<Read, Failure>
     }
 }
 
-/// Reads a source to its end and returns the problem of its text. The text itself is let go: a search may go on for hours, and needs
-/// only the problem.
+/// Reads a source to its end and returns the problem of its text. The text itself is let go: a search may go on for
+/// hours, and needs only the problem.
 ///
 /// # Errors
 ///
@@ -148,12 +149,13 @@ fn given_by(alloc: Global, file: &[u8], answer: &[u8]) -> Result<Given, Failure>
     Ok(Given { read, answer })
 }
 
-/// Reads both sources to their ends, and returns the problem of the first and the answer that the second gives to it. The texts are let
-/// go: a search may go on for hours, and needs only the problem.
+/// Reads both sources to their ends, and returns the problem of the first and the answer that the second gives to it.
+/// The texts are let go: a search may go on for hours, and needs only the problem.
 ///
 /// # Errors
 ///
-/// `Read` if a read failed, `File` with the first fault of the problem's text, else `Answer` with that of the answer's, and `Memory`.
+/// `Read` if a read failed, `File` with the first fault of the problem's text, else `Answer` with that of the answer's,
+/// and `Memory`.
 pub fn read_given<R: Source, S: Source>(
     alloc: Global,
     file: &mut R,

@@ -1,5 +1,5 @@
-//! The engines that search in one thread: each reads sources, writes a text to a sink and returns an exit status. What is read and
-//! written is a type parameter, so that the contracts can name the bytes.
+//! The engines that search in one thread: each reads sources, writes a text to a sink and returns an exit status. What
+//! is read and written is a type parameter, so that the contracts can name the bytes.
 #![tactic(auto)]
 
 mod alone;

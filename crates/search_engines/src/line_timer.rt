@@ -7,8 +7,8 @@ use std::time::{Clock, Duration};
 /// How many seconds lie between two lines at least, and before the first.
 const PAUSE: u64 = 1;
 
-/// After so many seconds the pause between listed lines is longer, and after still more it is longer again: the log of a night's search
-/// fills a page, and its first minute shows each second.
+/// After so many seconds the pause between listed lines is longer, and after still more it is longer again: the log of
+/// a night's search fills a page, and its first minute shows each second.
 const LONG: u64 = 60;
 
 /// How long the pause is then, in seconds. Chosen, not measured, as the next two.
@@ -37,7 +37,8 @@ impl LineTimer {
         }
     }
 
-    /// Returns how many whole seconds have passed, if a line of this style is due; the next one is then due a pause later.
+    /// Returns how many whole seconds have passed, if a line of this style is due; the next one is then due a pause
+    /// later.
     pub fn due<C: Clock>(&mut self, clock: &C, style: LineStyle) -> Option<u64> {
         // (the clock is a call of the system, which a search that nobody follows does without)
         if style == LineStyle::Silent {

@@ -12,7 +12,8 @@ use crate::unanswered::Unanswered;
 use cover_problem::{Answer, Problem};
 use dlx_reader::{Sink, WriteFault, write_answer, write_bytes};
 
-/// Writes all of a text, and returns the status that is given for it. The only fault is `Write`; then a beginning was written.
+/// Writes all of a text, and returns the status that is given for it. The only fault is `Write`; then a beginning was
+/// written.
 pub fn write_line<W: Sink>(text: &[u8], status: u8, sink: &mut W) -> Result<u8, EngineFault>
     ensures output { IsOutput (said text.now status) (W.contents sink.old)
         (W.contents sink.new) result }

@@ -1,8 +1,9 @@
 //! A watch that lets a search rest now and then, and looks for a reason meanwhile.
 //!
-//! So a reason of a small problem is found after a hundredth of a second, and one that takes long in a search that takes far longer, and no
-//! search is begun again for it. What it costs is 0.6 thousandths of a second at first, and then an 80th of the search's time at the most, each time
-//! it looks: with times four times as long from one to the next, a 60th of all.
+//! So a reason of a small problem is found after a hundredth of a second, and one that takes long in a search that
+//! takes far longer, and no search is begun again for it. What it costs is 0.6 thousandths of a second at first, and
+//! then an 80th of the search's time at the most, each time it looks: with times four times as long from one to the
+//! next, a 60th of all.
 
 ghost use Rattle.std.specs.Prelude.{◌≡◌, [], true, None, IfSome};
 ghost use Rattle.cover_problem.specs.Search.{first};
@@ -28,12 +29,12 @@ pub(crate) const LATE: u64 = 640;
 /// Which part of a search's time goes by at most while a reason is looked for, unless that is less than `LEAST`.
 const PART: u64 = 80;
 
-/// For how many microseconds a reason is looked for at most in a search that is young. With what is done between two looks at the clock, a
-/// search that finds none then lasts less than a thousandth of a second longer.
+/// For how many microseconds a reason is looked for at most in a search that is young. With what is done between two
+/// looks at the clock, a search that finds none then lasts less than a thousandth of a second longer.
 const LEAST: u64 = 600;
 
-/// How many options a problem has at most of which a reason is looked for at `EARLY`: of one with more, the first look at all options takes
-/// longer than a thousandth of a second.
+/// How many options a problem has at most of which a reason is looked for at `EARLY`: of one with more, the first look
+/// at all options takes longer than a thousandth of a second.
 const MOST_OPTIONS: usize = 2_000;
 
 /// How many items it has at most if multipliers are looked for then, too: with 1,000 their matrix takes 8 MB.
@@ -56,7 +57,8 @@ impl<'a, C: Clock> ReasonWatch for BriefWatch<'a, C> {
     }
 }
 
-/// A reason of a problem that is small enough, if it is found before the watch ends that. The only error is out of memory.
+/// A reason of a problem that is small enough, if it is found before the watch ends that. The only error is out of
+/// memory.
 fn find_early_reason<W: ReasonWatch>(
     alloc: Global,
     problem: &Problem,
@@ -71,7 +73,8 @@ fn find_early_reason<W: ReasonWatch>(
     find_reason_until(alloc, problem, watch)
 }
 
-/// A watch that stops a search where another one does, or once it has found a reason. Where the clock can't be read it looks for none.
+/// A watch that stops a search where another one does, or once it has found a reason. Where the clock can't be read it
+/// looks for none.
 #[derive(Drop)]
 pub(crate) struct LookingWatch<'a, 'b, V: Watch, C: Clock> {
     clock: &'a C,

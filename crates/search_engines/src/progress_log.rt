@@ -14,7 +14,8 @@ pub enum LineStyle {
     Silent,
 }
 
-/// Where the progress of a search is written. A fault of the sink is passed over: the answer, not the log, is what the search is for.
+/// Where the progress of a search is written. A fault of the sink is passed over: the answer, not the log, is what the
+/// search is for.
 #[derive(Drop)]
 pub struct ProgressLog<'a, E: Sink> {
     sink: &'a mut E,

@@ -23,8 +23,8 @@ impl EndWatch for Unwatched {
     fn end(&mut self) {}
 }
 
-/// A watch that stops nothing, and writes now and then how far a search of the empty prefix has come. Where the clock can't be
-/// read it writes nothing.
+/// A watch that stops nothing, and writes now and then how far a search of the empty prefix has come. Where the clock
+/// can't be read it writes nothing.
 #[derive(Drop)]
 pub struct ProgressWatch<'a, E: Sink, C: Clock> {
     clock: &'a C,

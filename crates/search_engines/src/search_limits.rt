@@ -34,7 +34,8 @@ impl TimeLimit {
 /// How many prefixes a search may count, and how long it may last.
 #[derive(Clone, Copy)]
 pub struct SearchLimits {
-    /// How many prefixes it may count, from 1: those that it visits, and those below a state that it skips. Any number where there is none.
+    /// How many prefixes it may count, from 1: those that it visits, and those below a state that it skips. Any number
+    /// where there is none.
     pub fuel: Option<u64>,
     /// How long it may last; as long as it takes where there is none.
     pub time: Option<TimeLimit>,

@@ -1,8 +1,8 @@
 //! The answer to a problem by a search alone.
 //!
-//! There are two searches with the same first cover: the loop of `alone`, which counts its visits, and a recursion that doesn't, for problems
-//! of more visits than can be counted. The loop takes up to a twentieth fewer instructions. So it is tried first, and where it sees that it
-//! can't count on, what it did is lost.
+//! There are two searches with the same first cover: the loop of `alone`, which counts its visits, and a recursion that
+//! doesn't, for problems of more visits than can be counted. The loop takes up to a twentieth fewer instructions. So it
+//! is tried first, and where it sees that it can't count on, what it did is lost.
 
 ghost use Rattle.std.specs.Prelude.{◌≡◌, ◌≤◌, [], Some, true, IfOk, IfSome, MatchOption};
 ghost use Rattle.cover_problem.specs.Search.{first};
@@ -15,8 +15,8 @@ use cover_problem::{Answer, Problem, in_order};
 use decider::{Decider, Decision, Trace, Untraced};
 use std::alloc::{AllocError, Global};
 
-/// Returns the answer of a search with so much fuel that came to this finding of the empty prefix, with a cover's options in the order of the
-/// file; or why there is none. The only error is out of memory.
+/// Returns the answer of a search with so much fuel that came to this finding of the empty prefix, with a cover's
+/// options in the order of the file; or why there is none. The only error is out of memory.
 fn found_answer(
     alloc: Global,
     problem: &Problem,
@@ -34,8 +34,8 @@ fn found_answer(
     }
 }
 
-/// Searches with so many visits at most and returns the answer, or why there is none: they were all made, or the watch stopped it. The only
-/// error is out of memory.
+/// Searches with so many visits at most and returns the answer, or why there is none: they were all made, or the watch
+/// stopped it. The only error is out of memory.
 #[tactic(auto, using(crate::proofs::Outcomes::given_by, crate::proofs::Outcomes::given_stopped))]
 fn searched_counting<V: Watch>(
     alloc: Global,
@@ -56,8 +56,8 @@ fn searched_counting<V: Watch>(
     }
 }
 
-/// Searches a problem with so many visits at most and returns the answer, or why there is none: they were all made, or the watch stopped it. The
-/// only error is out of memory.
+/// Searches a problem with so many visits at most and returns the answer, or why there is none: they were all made, or
+/// the watch stopped it. The only error is out of memory.
 pub(crate) fn fueled_answer<V: Watch>(
     alloc: Global,
     problem: &Problem,
@@ -71,8 +71,8 @@ pub(crate) fn fueled_answer<V: Watch>(
     searched_counting(alloc, &Tables::build(alloc, problem)?, fuel, watch)
 }
 
-/// Searches the problem without counting until it is decided or the watch stops it, and returns the answer, or none where it was stopped. The
-/// trace hears of each step. The only error is out of memory.
+/// Searches the problem without counting until it is decided or the watch stops it, and returns the answer, or none
+/// where it was stopped. The trace hears of each step. The only error is out of memory.
 pub(crate) fn searched<V: Watch, T: Trace>(
     alloc: Global,
     tables: &Tables<'_>,
@@ -92,8 +92,8 @@ pub(crate) fn searched<V: Watch, T: Trace>(
     }
 }
 
-/// Searches as `alone` does, and once more without counting where the visits are more than can be counted. Returns the answer, or none where
-/// the watch stopped it. The only error is out of memory.
+/// Searches as `alone` does, and once more without counting where the visits are more than can be counted. Returns the
+/// answer, or none where the watch stopped it. The only error is out of memory.
 #[tactic(auto, using(crate::proofs::Outcomes::given_is_first, crate::proofs::Outcomes::time_stops))]
 pub(crate) fn counted_or_searched<V: Watch>(
     alloc: Global,
@@ -111,8 +111,8 @@ pub(crate) fn counted_or_searched<V: Watch>(
     }
 }
 
-/// Returns the answer of a problem by a search alone: its first cover, with its options in the order of the file, or that there is none; no
-/// answer where the watch stopped it. The only error is out of memory.
+/// Returns the answer of a problem by a search alone: its first cover, with its options in the order of the file, or
+/// that there is none; no answer where the watch stopped it. The only error is out of memory.
 pub fn search_until<V: Watch>(
     alloc: Global,
     problem: &Problem,

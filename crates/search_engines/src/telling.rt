@@ -1,6 +1,7 @@
 //! What is written to standard error, and the exit status that goes with it.
 //!
-//! A fault of that sink is passed over throughout: there is nowhere left to report it, and the status still says how the run ended.
+//! A fault of that sink is passed over throughout: there is nowhere left to report it, and the status still says how
+//! the run ended.
 
 ghost use Rattle.std.specs.Prelude.{◌≡◌};
 ghost use Rattle.search_engines.specs.Failures.{plain, plain_fault};
@@ -83,7 +84,8 @@ pub struct InputNames<'a> {
     pub answer: Option<&'a str>,
 }
 
-/// Reports that the problem file is refused since no item has a name, and the name, and returns the exit status, which is 3.
+/// Reports that the problem file is refused since no item has a name, and the name, and returns the exit status, which
+/// is 3.
 fn tell_unknown<E: Sink>(unknown: &UnknownName, sink: &mut E) -> u8
     ensures { result ≡ 3 }
 {

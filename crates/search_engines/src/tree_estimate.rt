@@ -1,5 +1,6 @@
-//! How much of a search tree lies behind a search, as Knuth's DLX1 reports it: each child counts for an equal part of its parent, and half of
-//! the last chosen option is taken to be done. It is rough where subtrees differ, but needs no second search.
+//! How much of a search tree lies behind a search, as Knuth's DLX1 reports it: each child counts for an equal part of
+//! its parent, and half of the last chosen option is taken to be done. It is rough where subtrees differ, but needs no
+//! second search.
 
 ghost use Rattle.std.specs.Prelude.{◌≡◌, ◌<◌, ◌≤◌, length, false, IfSome};
 ghost use Rattle.cover_problem.specs.Prefix.{is_covered};
@@ -9,8 +10,9 @@ use cover_problem::Problem;
 use dancing_links::Links;
 use std::alloc::{AllocError, Global};
 
-/// Estimates which share of the tree below the empty prefix lies behind a search, as DLX1 reports it: each child of a prefix
-/// counts for an equal part of what the prefix counts for, and half of the last chosen option is taken to be done.
+/// Estimates which share of the tree below the empty prefix lies behind a search, as DLX1 reports it: each child of a
+/// prefix counts for an equal part of what the prefix counts for, and half of the last chosen option is taken to be
+/// done.
 #[derive(Drop)]
 pub struct TreeEstimate<'a> {
     /// Links of the estimate's own, so that the search's are left as they are.
@@ -46,13 +48,14 @@ impl<'a> TreeEstimate<'a> {
         })
     }
 
-    /// Returns the share that lies behind a search that has chosen these options, of `WHOLE`; each part is rounded down. The options
-    /// are read up to the first that is no child of those before it. It takes no memory.
+    /// Returns the share that lies behind a search that has chosen these options, of `WHOLE`; each part is rounded
+    /// down. The options are read up to the first that is no child of those before it. It takes no memory.
     pub fn share(&mut self, chosen: &[u16]) -> u64 {
         self.share_below(0, chosen)
     }
 
-    /// Returns how much of what counts for a prefix of this length lies behind a search of it that has chosen these options, of `WHOLE`.
+    /// Returns how much of what counts for a prefix of this length lies behind a search of it that has chosen these
+    /// options, of `WHOLE`.
     pub fn share_below(&mut self, length: usize, chosen: &[u16]) -> u64 {
         let span = self.span(length, chosen);
         // Nothing is known of what lies below the last option, so half of it counts as done.
@@ -64,8 +67,8 @@ impl<'a> TreeEstimate<'a> {
         self.span(prefix.len(), prefix).part
     }
 
-    /// Chooses these options, up to the first that is no child of those before it, and returns the part of the tree below them. What
-    /// comes before one of the first options, as many as the length says, isn't counted.
+    /// Chooses these options, up to the first that is no child of those before it, and returns the part of the tree
+    /// below them. What comes before one of the first options, as many as the length says, isn't counted.
     fn span(&mut self, length: usize, chosen: &[u16]) -> Span {
         // (the links of the last call are emptied, not built once more, which would take memory)
         choose_prefix(&mut self.links, &[]);
@@ -94,7 +97,8 @@ impl<'a> TreeEstimate<'a> {
         let item = self.links.branch_item()?;
         let before = count_before(&self.links, item, option)?;
         let children = self.links.count(item) as u64;
-        // (never so, as it was just met among the live options; choose asks for both, and the walk shows neither to the prover)
+        // (never so, as it was just met among the live options; choose asks for both, and the walk shows neither to the
+        // prover)
         if usize::from(option) >= self.links.problem().options() || !self.links.is_live(option) {
             return None;
         }

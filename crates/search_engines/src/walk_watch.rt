@@ -47,8 +47,8 @@ fn is_turn_over<C: Clock>(clock: &C, began: &Stopwatch) -> Option<bool> {
     Some(elapsed >= Duration::from_millis(TURN))
 }
 
-/// A watch that does what another one does, and lets a walk to the first cover go on, as long as the search did since then. It stops the
-/// search once the walk has ended. Where the clock can't be read the walk doesn't go on.
+/// A watch that does what another one does, and lets a walk to the first cover go on, as long as the search did since
+/// then. It stops the search once the walk has ended. Where the clock can't be read the walk doesn't go on.
 #[derive(Drop)]
 pub(crate) struct WalkWatch<'a, 'b, P: ForProblem, V: Watch, C: Clock> {
     clock: &'a C,

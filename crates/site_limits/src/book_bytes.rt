@@ -4,8 +4,8 @@ ghost use Rattle.std.specs.Prelude.{◌≡◌};
 
 use std::sync::atomic::{AtomicU64, Ordering};
 
-/// How many bytes the books of all sites of a run take together, and how many they may. The sites' threads share it without a lock, since
-/// no answer depends on it.
+/// How many bytes the books of all sites of a run take together, and how many they may. The sites' threads share it
+/// without a lock, since no answer depends on it.
 #[derive(Drop)]
 pub struct BookBytes {
     taken: AtomicU64,
@@ -40,7 +40,8 @@ impl BookBytes {
         self.most
     }
 
-    /// Whether they take as many as they may, so that no entry more is to be made. Threads that look at once may each make one more.
+    /// Whether they take as many as they may, so that no entry more is to be made. Threads that look at once may each
+    /// make one more.
     pub fn are_full(&self) -> bool {
         self.taken() >= self.most
     }

@@ -20,6 +20,7 @@ pub enum EndCause {
     Time,
     /// Its turns are over.
     Turns,
-    /// It was stopped by the site's other threads or by another site, which say why, or a thread of the site couldn't be started.
+    /// It was stopped by the site's other threads or by another site, which say why, or a thread of the site couldn't
+    /// be started.
     Stopped,
 }

@@ -40,8 +40,8 @@ impl Ending {
         }
     }
 
-    /// Returns the ending of a run of so many nodes that begins now and lasts so long at most, if it is limited. A limited run whose
-    /// clock can't be read ends at once.
+    /// Returns the ending of a run of so many nodes that begins now and lasts so long at most, if it is limited. A
+    /// limited run whose clock can't be read ends at once.
     pub fn within<R: Clock>(rt: &R, limit: Option<Duration>, nodes: u8) -> Ending {
         Ending {
             raised: AtomicBool::new(false),
@@ -59,10 +59,11 @@ impl Ending {
         self.has_registry.store(true, Ordering::SeqCst);
     }
 
-    /// Waits until the registry's threads have begun, or the run is over, for some two seconds, and returns whether they have begun.
+    /// Waits until the registry's threads have begun, or the run is over, for some two seconds, and returns whether
+    /// they have begun.
     ///
-    /// The wait has a limit because work that can't be started on a thread of its own runs after the others: without one, they would
-    /// wait for it for ever.
+    /// The wait has a limit because work that can't be started on a thread of its own runs after the others: without
+    /// one, they would wait for it for ever.
     pub fn await_registry<R: Clock>(&self, rt: &R) -> bool {
         for _look in 0..LOOKS {
             if self.has_registry.load(Ordering::SeqCst) || self.has_come(rt) {

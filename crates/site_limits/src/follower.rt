@@ -4,13 +4,14 @@
 use crate::site_end::SiteEnd;
 use brancher::Finding;
 
-/// Follows what the sites of a run do, to report how far it has come and why it ended. What it isn't asked to do, it leaves out.
+/// Follows what the sites of a run do, to report how far it has come and why it ended. What it isn't asked to do, it
+/// leaves out.
 pub trait Follower {
     /// A worker begins to search a prefix.
     fn begun(&self) {}
 
-    /// A worker that searches a prefix of this length has chosen these options, and made so many visits. Called once in 1,024 visits at
-    /// most.
+    /// A worker that searches a prefix of this length has chosen these options, and made so many visits. Called once in
+    /// 1,024 visits at most.
     fn seen(&self, _length: usize, _chosen: &[u16], _made: u64) {}
 
     /// A worker has searched a prefix, and made so many visits.

@@ -4,9 +4,11 @@
 use crate::follower::Follower;
 use spawn_frame::Job;
 
-/// May hold a site's workers back, so that tests bring them into an order. Where nothing else is said, it lets all pass.
+/// May hold a site's workers back, so that tests bring them into an order. Where nothing else is said, it lets all
+/// pass.
 pub trait Gate {
-    /// Whether the worker may post the result of the job now; it is asked again each turn until it may. The call may wait.
+    /// Whether the worker may post the result of the job now; it is asked again each turn until it may. The call may
+    /// wait.
     fn pass(&self, _worker: u8, _job: &Job) -> bool {
         true
     }

@@ -2,8 +2,8 @@
 
 use std::sync::atomic::{AtomicU64, Ordering};
 
-/// How many jobs of a site should be split yet, so that it has work for its own workers and for others. Its threads share it without a
-/// lock, since no answer depends on it.
+/// How many jobs of a site should be split yet, so that it has work for its own workers and for others. Its threads
+/// share it without a lock, since no answer depends on it.
 #[derive(Drop)]
 pub struct Hunger {
     jobs: AtomicU64,
@@ -22,7 +22,8 @@ impl Hunger {
         self.jobs.store(jobs, Ordering::Relaxed);
     }
 
-    /// Counts a job that was split. Two at once may count as one, since the load and the store are apart: then a few jobs more are small.
+    /// Counts a job that was split. Two at once may count as one, since the load and the store are apart: then a few
+    /// jobs more are small.
     pub fn feed(&self) {
         let jobs = self.jobs.load(Ordering::Relaxed);
         self.jobs.store(jobs.saturating_sub(1), Ordering::Relaxed);

@@ -1,5 +1,5 @@
-//! How long the threads of a site work, and what ends them: how many visits a job may make, how many turns a thread takes, when a site acts
-//! by itself, and why it ends. It needs no core, so that it is proved beside the cores.
+//! How long the threads of a site work, and what ends them: how many visits a job may make, how many turns a thread
+//! takes, when a site acts by itself, and why it ends. It needs no core, so that it is proved beside the cores.
 #![tactic(auto)]
 
 mod book_bytes;

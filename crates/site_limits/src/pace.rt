@@ -39,11 +39,11 @@ pub struct Quota {
     pub most: u64,
 }
 
-/// How many visits a worker's next search gets. Where work is short jobs are small, so that they are split; in plenty they are
-/// large and grow with the work done, so that few visits are made twice. A search that runs out of visits is lost,
-/// so a prefix that is thought to take far more is split at once: for each length of a prefix a worker keeps
-/// how many visits a search without a cover takes, as the last ones show. It learns from long prefixes upwards: a length of which it
-/// knows nothing is thought to take eight times the next one, and where that isn't known either, too much.
+/// How many visits a worker's next search gets. Where work is short jobs are small, so that they are split; in plenty
+/// they are large and grow with the work done, so that few visits are made twice. A search that runs out of visits is
+/// lost, so a prefix that is thought to take far more is split at once: for each length of a prefix a worker keeps how
+/// many visits a search without a cover takes, as the last ones show. It learns from long prefixes upwards: a length of
+/// which it knows nothing is thought to take eight times the next one, and where that isn't known either, too much.
 #[derive(Debug, Drop)]
 pub struct Pace {
     /// How many visits a first search has, at least 1.
@@ -59,8 +59,8 @@ pub struct Pace {
 }
 
 impl Pace {
-    /// The pace of a worker before its first search: a first search has so many visits (0 counts as 1), it is alone or not, and no
-    /// prefix is longer than so many options. The only error is out of memory.
+    /// The pace of a worker before its first search: a first search has so many visits (0 counts as 1), it is alone or
+    /// not, and no prefix is longer than so many options. The only error is out of memory.
     pub fn new(alloc: Global, base: u64, alone: bool, longest: usize) -> Result<Pace, AllocError> {
         let mut expected = Vec::with_capacity(alloc, longest)?;
         for _ in 0..longest {
@@ -77,11 +77,12 @@ impl Pace {
 
     /// How many visits the search of a prefix of this length gets, at a site of this hunger.
     ///
-    /// With a base of 1 each gets one visit. Else a worker that is alone has no limit; the prefix without an option gets the base;
-    /// where hunger is felt, a fifth of it; and else eight times the greater of 30 times the base and a 1,024th of the visits made,
-    /// unless it is thought to take more than that greater number, or nothing is known of its length and the next: then it gets a fifth
-    /// of the base, and what was thought of its length is a tenth less the next time. After a search of more than that fifth was spent,
-    /// each gets a fifth of the base until one ends without a cover: what is behind a spent prefix may take as long, at each length.
+    /// With a base of 1 each gets one visit. Else a worker that is alone has no limit; the prefix without an option
+    /// gets the base; where hunger is felt, a fifth of it; and else eight times the greater of 30 times the base and a
+    /// 1,024th of the visits made, unless it is thought to take more than that greater number, or nothing is known of
+    /// its length and the next: then it gets a fifth of the base, and what was thought of its length is a tenth less
+    /// the next time. After a search of more than that fifth was spent, each gets a fifth of the base until one ends
+    /// without a cover: what is behind a spent prefix may take as long, at each length.
     pub fn fuel(&mut self, length: usize, hunger: &Hunger) -> u64
         ensures { 1 ≤ result }
     {
@@ -95,11 +96,13 @@ impl Pace {
         if hunger.is_felt() || self.deem_too_long(length) || self.is_wary {
             return self.small();
         }
-        // (searches of one length differ, and one that is spent is lost: so it gets far more than it is thought to take)
+        // (searches of one length differ, and one that is spent is lost: so it gets far more than it is thought to
+        // take)
         self.plenty().saturating_mul(8).max(1)
     }
 
-    /// The quota of a search of a prefix of this length that keeps states, where one that keeps none has so many visits.
+    /// The quota of a search of a prefix of this length that keeps states, where one that keeps none has so many
+    /// visits.
     pub fn quota(&self, length: usize, visits: u64) -> Quota {
         // (a small job is there to be split, so its quota doesn't grow, however much its states save)
         if self.base == 1 || visits <= self.small() {
@@ -119,8 +122,8 @@ impl Pace {
 
     /// A search of a prefix of this length ended so, after so many visits.
     ///
-    /// One without a cover is a quarter of what is thought of such prefixes from now on, the first one all of it; one that was spent with
-    /// more than a small job's visits is thought to take twice its visits at least.
+    /// One without a cover is a quarter of what is thought of such prefixes from now on, the first one all of it; one
+    /// that was spent with more than a small job's visits is thought to take twice its visits at least.
     pub fn note(&mut self, length: usize, outcome: Outcome, visits: u64) {
         self.visits = self.visits.saturating_add(visits);
         let small = self.small();
@@ -155,8 +158,8 @@ impl Pace {
         self.base.saturating_mul(PLENTY).max(self.visits / SHARE)
     }
 
-    /// Whether a search of a prefix of this length is thought to take more than a job in plenty does; where searches of this length
-    /// have told so, it is thought to take a tenth less the next time.
+    /// Whether a search of a prefix of this length is thought to take more than a job in plenty does; where searches of
+    /// this length have told so, it is thought to take a tenth less the next time.
     fn deem_too_long(&mut self, length: usize) -> bool {
         let plenty = self.plenty();
         let next = self

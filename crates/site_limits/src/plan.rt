@@ -15,7 +15,8 @@ pub struct Plan {
     pub fuel: u64,
     /// What the victims are drawn from.
     pub seed: u64,
-    /// How many turns each thread has at most. Those in which it had nothing to do don't count, but the site's time has a limit, too.
+    /// How many turns each thread has at most. Those in which it had nothing to do don't count, but the site's time has
+    /// a limit, too.
     pub turns: u64,
     /// When a site acts although nothing came.
     pub timing: Timing,

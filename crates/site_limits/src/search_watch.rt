@@ -15,8 +15,8 @@ use std::sync::atomic::{AtomicBool, Ordering};
 /// searches, not where some do. Chosen, not measured.
 const MANY: u64 = 2;
 
-/// Stops a worker's search once its site is to end, or, if it keeps states, once it has made so many visits as it may; shows it to the follower
-/// meanwhile.
+/// Stops a worker's search once its site is to end, or, if it keeps states, once it has made so many visits as it may;
+/// shows it to the follower meanwhile.
 #[derive(Drop)]
 pub struct SearchWatch<'a, F: Follower> {
     /// The site is to end.
@@ -39,7 +39,8 @@ pub struct SearchWatch<'a, F: Follower> {
 }
 
 impl<'a, F: Follower> SearchWatch<'a, F> {
-    /// The watch of the search of a prefix of this length, with so much fuel and this quota. It stops it once `stop_flag` is raised.
+    /// The watch of the search of a prefix of this length, with so much fuel and this quota. It stops it once
+    /// `stop_flag` is raised.
     pub fn new(
         stop_flag: &'a AtomicBool,
         follower: &'a F,
@@ -60,7 +61,8 @@ impl<'a, F: Follower> SearchWatch<'a, F> {
         }
     }
 
-    /// How many visits the search said that it has made: once it has ended, all but one at which a kept state may have spent its fuel.
+    /// How many visits the search said that it has made: once it has ended, all but one at which a kept state may have
+    /// spent its fuel.
     pub fn made_visits(&self) -> u64 {
         self.made
     }

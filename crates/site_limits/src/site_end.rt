@@ -33,8 +33,8 @@ impl SiteEnd {
         }
     }
 
-    /// Whether the others can't go on without the site of this node: the registry, and a node that took part and has not heard that
-    /// the search is over, or whose memory ran out.
+    /// Whether the others can't go on without the site of this node: the registry, and a node that took part and has
+    /// not heard that the search is over, or whose memory ran out.
     pub fn ends_run(&self, node: u8) -> bool {
         match self.cause {
             EndCause::Over => node == 0,

@@ -7,14 +7,15 @@
 pub struct Timing {
     /// A node greets the registry so often: while its workers search nothing else may be sent for long.
     pub greeting: u64,
-    /// A site gives up once so long no packet came that shows the run going on: at the registry any packet does, at a node one of the
-    /// registry, as nodes ask one another for ever.
+    /// A site gives up once so long no packet came that shows the run going on: at the registry any packet does, at a
+    /// node one of the registry, as nodes ask one another for ever.
     pub silence: u64,
     /// What may be lost is said again so long after it was said.
     pub again: u64,
     /// While nothing new is said, each time is twice as late as the one before, and at most so late.
     pub latest_again: u64,
-    /// A site whose threads have so many turns lasts so many times this at most before a restart, and a thousand times longer else.
+    /// A site whose threads have so many turns lasts so many times this at most before a restart, and a thousand times
+    /// longer else.
     pub turn: u64,
 }
 

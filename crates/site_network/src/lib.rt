@@ -1,4 +1,5 @@
-//! Links between the sites of one host: datagrams over sockets on 127.0.0.1, or in memory. It knows nothing of what they carry.
+//! Links between the sites of one host: datagrams over sockets on 127.0.0.1, or in memory. It knows nothing of what
+//! they carry.
 #![tactic(auto)]
 
 mod link;

@@ -27,15 +27,17 @@ pub trait Link: Drop {
         ensures ok { IfOk result (λ _. failed self.new ≡ failed self.old) }
         ensures fault { IfErr result (λ _. failed self.new ≡ failed_once (failed self.old)) };
 
-    /// Receives a datagram, and returns how many bytes of it are at the front of the buffer: all of them, or those that fit, and none of a
-    /// datagram that is no site's of the run. Returns `None` where none came within some 10 milliseconds.
+    /// Receives a datagram, and returns how many bytes of it are at the front of the buffer: all of them, or those that
+    /// fit, and none of a datagram that is no site's of the run. Returns `None` where none came within some 10
+    /// milliseconds.
     fn receive<R: Wait>(&mut self, rt: &R, into: &mut [u8]) -> Result<Option<usize>, LinkFault>
         ensures fits { IfOk result (λ came. IfSome came (λ bytes. bytes ≤ length into.old)) }
         ensures whole { length into.new ≡ length into.old }
         ensures ok { IfOk result (λ _. failed self.new ≡ failed self.old) }
         ensures fault { IfErr result (λ _. failed self.new ≡ failed_once (failed self.old)) };
 
-    /// Makes each later empty receive wait as short a time as it can. A link whose receives don't wait has nothing to change.
+    /// Makes each later empty receive wait as short a time as it can. A link whose receives don't wait has nothing to
+    /// change.
     fn hasten(&mut self)
         ensures { failed self.new ≡ failed self.old }
     {}

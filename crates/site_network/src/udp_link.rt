@@ -18,8 +18,8 @@ const PATIENCE: u64 = 4;
 /// How many bytes a datagram has at most, without its code: more than the longest packet.
 const LONGEST: usize = 2_096;
 
-/// A socket on 127.0.0.1 with a port of the system's choice, whose receives wait 4 to 8 milliseconds at most, by the system's clock. The
-/// errors are the system's.
+/// A socket on 127.0.0.1 with a port of the system's choice, whose receives wait 4 to 8 milliseconds at most, by the
+/// system's clock. The errors are the system's.
 pub fn bound<R: Net>(rt: &R) -> io::Result<UdpSocket> {
     let here = SocketAddrV4::new(Ipv4Addr::LOCALHOST, 0);
     let socket = UdpSocket::bind(rt, SocketAddr::V4(here))?;
@@ -67,8 +67,9 @@ fn addresses_of(alloc: Global, sockets: &[UdpSocket]) -> io::Result<Vec<SocketAd
     Ok(addresses)
 }
 
-/// The end of a site that has a socket; its twins have the same one. Behind each datagram that it sends it puts the code of the run's key,
-/// and of what comes it hears only what has the right one: any other datagram is a stranger's, and comes as one without bytes.
+/// The end of a site that has a socket; its twins have the same one. Behind each datagram that it sends it puts the
+/// code of the run's key, and of what comes it hears only what has the right one: any other datagram is a stranger's,
+/// and comes as one without bytes.
 #[derive(Drop)]
 pub struct UdpLink {
     sockets: Arc<Sockets, Global>,
@@ -104,8 +105,8 @@ impl UdpLink {
         }
     }
 
-    /// Receives a datagram, and returns how many of its bytes are in the buffer, none of them where a stranger sent it. The errors are
-    /// the system's.
+    /// Receives a datagram, and returns how many of its bytes are in the buffer, none of them where a stranger sent it.
+    /// The errors are the system's.
     fn received(&self, into: &mut [u8]) -> io::Result<usize>
         ensures fits { IfOk result (λ bytes. bytes ≤ length into.old) }
         ensures whole { length into.new ≡ length into.old }
@@ -149,14 +150,16 @@ impl Link for UdpLink {
         match self.received(into) {
             Ok(bytes) => Ok(Some(bytes)),
             Err(error) => match error.kind() {
-                // (a receive that timed out is either of the first two, by the system; a signal only ends the wait sooner)
+                // (a receive that timed out is either of the first two, by the system; a signal only ends the wait
+                // sooner)
                 ErrorKind::WouldBlock | ErrorKind::TimedOut | ErrorKind::Interrupted => Ok(None),
                 _ => Err(self.fail()),
             },
         }
     }
 
-    /// Its socket, which its twins have too, doesn't block any more. (Where the system refuses that, empty receives take longer.)
+    /// Its socket, which its twins have too, doesn't block any more. (Where the system refuses that, empty receives
+    /// take longer.)
     fn hasten(&mut self) {
         if let Some(socket) = self.socket() {
             let _ = socket.set_nonblocking(true);

@@ -14,8 +14,8 @@ const MOST_PARTS: u32 = 1000;
 /// Where standard input has a name.
 const INPUT: &str = "/dev/stdin";
 
-/// Where a certificate goes. A file is written under another name in its folder and takes its own only if it is to stay, so that what was there
-/// before is never harmed, and no part of a certificate has the name of a whole one.
+/// Where a certificate goes. A file is written under another name in its folder and takes its own only if it is to
+/// stay, so that what was there before is never harmed, and no part of a certificate has the name of a whole one.
 #[derive(Drop)]
 pub(crate) struct CertificatePlace {
     /// The name of the file, behind all links.
@@ -25,7 +25,8 @@ pub(crate) struct CertificatePlace {
 }
 
 impl CertificatePlace {
-    /// Makes what a certificate of a problem's file is written to, where the user wants it by this name. The error says why there is none.
+    /// Makes what a certificate of a problem's file is written to, where the user wants it by this name. The error says
+    /// why there is none.
     pub(crate) fn create(
         rt: &HostRuntime,
         problem: &str,
@@ -128,7 +129,8 @@ fn create_directly(rt: &HostRuntime, name: &str) -> io::Result<(CertificatePlace
     Ok((CertificatePlace { target, part: None }, file))
 }
 
-/// Makes a file beside one that is there or not, under the first name that nobody has taken, so that two runs never write to the same one.
+/// Makes a file beside one that is there or not, under the first name that nobody has taken, so that two runs never
+/// write to the same one.
 fn create_beside(rt: &HostRuntime, target: String) -> io::Result<(CertificatePlace, File)> {
     for number in 1..=MOST_PARTS {
         let part = format!(in rt.alloc(); "{target}.part{number}")?;

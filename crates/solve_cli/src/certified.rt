@@ -98,7 +98,8 @@ impl CertifiedEnd {
     }
 }
 
-/// Finds an answer to the problem in a source, writes a certificate where there is no cover, and returns the exit status.
+/// Finds an answer to the problem in a source, writes a certificate where there is no cover, and returns the exit
+/// status.
 pub(crate) fn run_certified<E: Sink, R: Threads + Wait + Clock + Sync>(
     rt: &HostRuntime,
     threads: &R,
@@ -115,7 +116,8 @@ pub(crate) fn run_certified<E: Sink, R: Threads + Wait + Clock + Sync>(
     }
 }
 
-/// Writes the answer to a problem and a certificate, and returns the exit status. Only a certificate that is right stays.
+/// Writes the answer to a problem and a certificate, and returns the exit status. Only a certificate that is right
+/// stays.
 fn certify<E: Sink>(
     rt: &HostRuntime,
     asked: &Asked<'_, '_>,
@@ -144,7 +146,8 @@ fn certify<E: Sink>(
     place.end(rt, fate).tell(asked.name, status, errors)
 }
 
-/// Reads a certificate back, if the status of the answer wants one and all of it was written, and returns what became of it.
+/// Reads a certificate back, if the status of the answer wants one and all of it was written, and returns what became
+/// of it.
 pub(crate) fn fate_of(
     rt: &HostRuntime,
     problem: &Problem,
@@ -210,8 +213,8 @@ fn search_into<'a, E: Sink>(
     }
 }
 
-/// Searches a problem under a watch until the time is over, if it is limited, writes the answer, and returns how that ended. The writer hears of
-/// each step.
+/// Searches a problem under a watch until the time is over, if it is limited, writes the answer, and returns how that
+/// ended. The writer hears of each step.
 fn write_searched<V: EndWatch>(
     rt: &HostRuntime,
     limits: &SearchLimits,

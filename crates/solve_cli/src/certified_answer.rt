@@ -139,7 +139,8 @@ fn answer_into<E: Sink, R: Threads + Wait + Clock + Sync>(
     }
 }
 
-/// Writes the answer to a problem by whatever is first, and a certificate, and returns the exit status. Only a certificate that is right stays.
+/// Writes the answer to a problem by whatever is first, and a certificate, and returns the exit status. Only a
+/// certificate that is right stays.
 pub(crate) fn certify_answer<E: Sink, R: Threads + Wait + Clock + Sync>(
     rt: &HostRuntime,
     threads: &R,

@@ -53,7 +53,8 @@ fn open(rt: &HostRuntime, name: &str) -> io::Result<Input> {
     Ok(CountedReader::new(input))
 }
 
-/// Opens what a word of the command line names. The error is the exit status of a run that can't, and why it can't is reported.
+/// Opens what a word of the command line names. The error is the exit status of a run that can't, and why it can't is
+/// reported.
 fn open_told<E: Sink>(rt: &HostRuntime, name: &str, errors: &mut E) -> Result<Input, u8> {
     match open(rt, name) {
         Ok(input) => Ok(input),
@@ -125,8 +126,8 @@ fn run_alone<E: Sink>(
     alone_within(rt, rt.alloc(), limits, source, &mut output(rt), log)
 }
 
-/// How many threads may look for an answer at once: as many as asked for, or else as there are processors; one where the system doesn't
-/// say.
+/// How many threads may look for an answer at once: as many as asked for, or else as there are processors; one where
+/// the system doesn't say.
 fn threads_of<R: Threads>(threads: &R, request: &Request<'_>) -> u64 {
     match (request.threads, thread::available_parallelism(threads)) {
         (Some(asked), _) => u64::from(asked),
@@ -135,7 +136,8 @@ fn threads_of<R: Threads>(threads: &R, request: &Request<'_>) -> u64 {
     }
 }
 
-/// Looks for any answer to the problem in a source, and writes it; progress, if it is asked for, goes to the other sink.
+/// Looks for any answer to the problem in a source, and writes it; progress, if it is asked for, goes to the other
+/// sink.
 fn run_answer<E: Sink, R: Threads + Wait + Clock + Sync>(
     rt: &HostRuntime,
     threads: &R,
@@ -285,7 +287,8 @@ fn run_request<R: Threads + Wait + Clock + Net + Sync>(
     request: &Request<'_>,
 ) -> u8 {
     let mut errors = CountedWriter::new(rt.stderr());
-    // (the time counts from here, so that opening and reading the file is part of it; a run of several nodes counts from its own start)
+    // (the time counts from here, so that opening and reading the file is part of it; a run of several nodes counts
+    // from its own start)
     let limits = limits_of(rt, request);
     match open_told(rt, request.settings.file, &mut errors) {
         Ok(mut source) => run_opened(rt, threads, request, &limits, &mut source, &mut errors),

@@ -32,9 +32,9 @@ impl Table {
     /// have the next serials, in order; the answer is the first.
     ///
     /// `NamesSpent` comes exactly where the site may not name so many, `Memory` only where memory ran out; a fault
-    /// changes nothing. It costs looks for the unit, the making of the children, and passes through the unit's page. Memory
-    /// is taken for whole pages, before any change, and none where the last page has room for the children. No child that
-    /// is there moves.
+    /// changes nothing. It costs looks for the unit, the making of the children, and passes through the unit's page.
+    /// Memory is taken for whole pages, before any change, and none where the last page has room for the children. No
+    /// child that is there moves.
     pub fn spawn(&mut self, unit: Unit, options: &[u16]) -> Result<u32, SpawnFault>
         requires here { has_status is_here (unit_of self.old unit) ≡ true }
         requires some { 0 < length options.now }
@@ -49,7 +49,8 @@ impl Table {
         ensures err { OnErr result (self.new ≡ self.old) }
     {
         let first = self.own.len();
-        // (no table names more than its limit; tested before memory is taken, so that too few names are reported even where it runs out)
+        // (no table names more than its limit; tested before memory is taken, so that too few names are reported even
+        // where it runs out)
         if options.len() > self.names_limit as usize - first {
             return Err(SpawnFault::NamesSpent);
         }
@@ -71,8 +72,8 @@ impl Table {
         self.set_status(Unit::Own(serial), Status::Out(thief));
     }
 
-    /// An own child that is out is ready again, at the next attempt, which there is below 4,294,967,295. It costs passes
-    /// through its page.
+    /// An own child that is out is ready again, at the next attempt, which there is below 4,294,967,295. It costs
+    /// passes through its page.
     pub fn redo(&mut self, serial: u32)
         requires out { has_status is_out (slice_get self.old.own serial) ≡ true }
         requires attempt { attempt_in (slice_get self.old.own serial) < last_attempt }
@@ -103,8 +104,8 @@ impl Table {
         Ok(())
     }
 
-    /// Other children of a site become ready guests, each unless it is there already; the only error is out of memory, which
-    /// changes nothing. Each costs what `admit` does.
+    /// Other children of a site become ready guests, each unless it is there already; the only error is out of memory,
+    /// which changes nothing. Each costs what `admit` does.
     pub fn admit_each(&mut self, from: Site, gifts: Vec<Gift>) -> Result<(), AllocError>
         requires { AllByRecursion (λ g. 1 ≤ g.attempt) gifts.items }
         ensures ok { OnOk result (self.new

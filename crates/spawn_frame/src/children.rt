@@ -20,8 +20,8 @@ use crate::wanted::Wanted;
 use std::alloc::{AllocError, Global};
 use std::marker::Model;
 
-/// The own children of a site, by serial, in pages of 256 that never move. Of each page it is kept which kinds of children
-/// stand in it, so that no call looks at all of them.
+/// The own children of a site, by serial, in pages of 256 that never move. Of each page it is kept which kinds of
+/// children stand in it, so that no call looks at all of them.
 #[derive(Drop)]
 pub struct Children {
     pages: Vec<Page>,
@@ -93,9 +93,9 @@ impl Children {
         self.count
     }
 
-    /// Puts the children of a unit behind those that are there: for each option one with this prefix and the option. The
-    /// only error is out of memory, which changes no child. It takes memory for whole pages, before any change, and none
-    /// where the last page has room.
+    /// Puts the children of a unit behind those that are there: for each option one with this prefix and the option.
+    /// The only error is out of memory, which changes no child. It takes memory for whole pages, before any change, and
+    /// none where the last page has room.
     pub fn append(
         &mut self,
         unit: Unit,
@@ -124,8 +124,8 @@ impl Children {
         last_in_pages(&self.pages, wanted)
     }
 
-    /// The one of least serial from this one on that is wanted. It costs a look at each page behind, and passes through two
-    /// at most.
+    /// The one of least serial from this one on that is wanted. It costs a look at each page behind, and passes through
+    /// two at most.
     pub fn next(&self, wanted: Wanted, from: u32) -> Option<u32>
         ensures { result ≡ next_wanted wanted from (drop from self.now) }
     {
@@ -142,7 +142,8 @@ impl Children {
         count_in_pages(&self.pages, wanted)
     }
 
-    /// Gives a child another status, if it is there. It costs four passes through its page at most, as each change does.
+    /// Gives a child another status, if it is there. It costs four passes through its page at most, as each change
+    /// does.
     pub fn set_status(&mut self, serial: u32, status: Status)
         ensures { self.new ≡ change_child (with_work_status status) self.old serial }
     {

@@ -68,7 +68,8 @@ impl Inlet for FirstFound {
     {
         self.left -= 1;
         if let ChildResult::Cover(_) = child_result {
-            // (the least serial, not the first to come: so a frame's result depends on its children alone, not on the order of packets)
+            // (the least serial, not the first to come: so a frame's result depends on its children alone, not on the
+            // order of packets)
             let least = match self.winner {
                 Some(winner) => winner.min(child),
                 None => child,

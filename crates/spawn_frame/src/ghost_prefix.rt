@@ -9,9 +9,9 @@ use std::marker::Model;
 
 /// A prefix that only proofs read. It takes no memory, and its functions do nothing at run time.
 ///
-/// By itself it is tied to nothing that is stored. The invariant of a table ties it: a guest's path is its stored prefix, an
-/// own child's is its parent's with its stored option behind it, and the root's is empty. So the prefixes that contracts
-/// see are those that the fields spell, and `prefix_into` is proved to read them from there.
+/// By itself it is tied to nothing that is stored. The invariant of a table ties it: a guest's path is its stored
+/// prefix, an own child's is its parent's with its stored option behind it, and the root's is empty. So the prefixes
+/// that contracts see are those that the fields spell, and `prefix_into` is proved to read them from there.
 #[derive(Drop)]
 pub struct GhostPrefix {
     pub ghost options: { List ℕ },

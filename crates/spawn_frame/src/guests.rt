@@ -107,8 +107,8 @@ impl Guests {
         Ok(())
     }
 
-    /// Puts each of these children of a site at its place as a ready guest, unless it is there already. The only error is out
-    /// of memory, which changes nothing: it is taken before any change.
+    /// Puts each of these children of a site at its place as a ready guest, unless it is there already. The only error
+    /// is out of memory, which changes nothing: it is taken before any change.
     pub fn admit_each(&mut self, from: Site, gifts: Vec<Gift>) -> Result<(), AllocError>
         requires { IsAscending (map guest_entry self.old) }
         ensures ok { OnOk result (self.new ≡ put_gifts from gifts.items self.old) }
@@ -122,7 +122,8 @@ impl Guests {
         Ok(())
     }
 
-    /// Gives a guest another status, an open one only where it is open. It costs a search by halving where the guest ends.
+    /// Gives a guest another status, an open one only where it is open. It costs a search by halving where the guest
+    /// ends.
     pub fn set_status(&mut self, place: usize, status: Status)
         requires within { place < length self.old }
         requires stays { StaysOpen status (work_at self.old place) }

@@ -51,8 +51,8 @@ impl Table {
         Job { unit, attempt }
     }
 
-    /// Takes up the ready unit that is taken up next, if there is one. It is `ready` and `take_up` in one, and costs what they do; cores call these
-    /// two, and take memory between them.
+    /// Takes up the ready unit that is taken up next, if there is one. It is `ready` and `take_up` in one, and costs
+    /// what they do; cores call these two, and take memory between them.
     pub fn take(&mut self) -> Option<Job>
         ensures unit { option_map (λ job. job.unit) result ≡ ready_unit self.old }
         ensures ready { IfSome result (λ job.
@@ -64,8 +64,8 @@ impl Table {
         Some(self.take_up(unit))
     }
 
-    /// Whether a job is still worked on: its unit is here, at that attempt and with this prefix. It takes no memory, and
-    /// costs a look for the unit, and steps upwards from its last option until two options differ.
+    /// Whether a job is still worked on: its unit is here, at that attempt and with this prefix. It takes no memory,
+    /// and costs a look for the unit, and steps upwards from its last option until two options differ.
     pub fn has_job(&self, job: Job, prefix: &[u16]) -> bool
         ensures tested { result ≡ is_at_work job.attempt prefix.now (unit_of self.now job.unit) }
         ensures at_work { OnTrue result

@@ -8,8 +8,8 @@ use crate::page::{PAGE, Page};
 use crate::pages::first_of;
 use crate::wanted::Wanted;
 
-/// The own child of least serial from this one on, which is there, that is wanted. It costs a look at each page behind, and
-/// passes through two pages at most.
+/// The own child of least serial from this one on, which is there, that is wanted. It costs a look at each page behind,
+/// and passes through two pages at most.
 pub fn next_in_pages(pages: &[Page], wanted: Wanted, from: u32) -> Option<u32>
     requires small { length (in_pages pages.now) < 2 ^ 32 }
     requires filled { AreFilled pages.now }

@@ -19,8 +19,8 @@ use std::marker::Model;
 /// pages. Chosen, not measured.
 pub const PAGE: usize = 256;
 
-/// At most 256 own children that follow one another, and which kinds of them there are. It has room for all of them from
-/// the beginning, so they never move.
+/// At most 256 own children that follow one another, and which kinds of them there are. It has room for all of them
+/// from the beginning, so they never move.
 #[derive(Drop)]
 pub struct Page {
     children: Vec<Child>,

@@ -29,8 +29,8 @@ pub fn add_pages(alloc: Global, pages: &mut Vec<Page>, end: usize) -> Result<(),
     Ok(())
 }
 
-/// Puts the children of a unit behind those that are there: for each option one with this prefix and the option. There are
-/// pages for them.
+/// Puts the children of a unit behind those that are there: for each option one with this prefix and the option. There
+/// are pages for them.
 pub fn push_children(
     pages: &mut [Page],
     first: usize,
@@ -51,7 +51,8 @@ pub fn push_children(
     }
 }
 
-/// The own child of greatest serial that is wanted. It costs a look at each page, and a pass through the page that has it.
+/// The own child of greatest serial that is wanted. It costs a look at each page, and a pass through the page that has
+/// it.
 pub fn last_in_pages(pages: &[Page], wanted: Wanted) -> Option<Unit>
     requires small { length (in_pages pages.now) < 2 ^ 32 }
     requires filled { AreFilled pages.now }

@@ -13,8 +13,8 @@ use crate::unit::Unit;
 use crate::units::place_of;
 use std::alloc::AllocError;
 
-/// Appends a unit's prefix to the list; the only error is out of memory, and the list is then as it was. It costs a step
-/// for each option.
+/// Appends a unit's prefix to the list; the only error is out of memory, and the list is then as it was. It costs a
+/// step for each option.
 pub fn prefix_into(
     own: &Children,
     guests: &[Guest],

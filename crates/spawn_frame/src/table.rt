@@ -15,11 +15,11 @@ use std::marker::Model;
 
 /// The units of work of one site: its own children by serial, and its guests in the order of their names and attempts.
 ///
-/// Only `with_root`, `spawn`, `admit`, `admit_each`, `prefix_into` and copies take memory. The own children stand in pages of
-/// 256: a call looks at each page once and at the children of one or two pages, `outs` at those of each page that has one
-/// that is out. A guest is found by halving. Only `ready`, `take` and `ripe` may make a pass through the open guests, where
-/// they find no own child: no call walks over guests that have ended. No call goes through the children of a frame, whose
-/// inlet has heard them.
+/// Only `with_root`, `spawn`, `admit`, `admit_each`, `prefix_into` and copies take memory. The own children stand in
+/// pages of 256: a call looks at each page once and at the children of one or two pages, `outs` at those of each page
+/// that has one that is out. A guest is found by halving. Only `ready`, `take` and `ripe` may make a pass through the
+/// open guests, where they find no own child: no call walks over guests that have ended. No call goes through the
+/// children of a frame, whose inlet has heard them.
 #[derive(Drop)]
 pub struct Table {
     pub(crate) site: Site,

@@ -21,15 +21,16 @@ use crate::wanted::Wanted;
 use std::alloc::AllocError;
 
 impl Table {
-    /// How many own children are out. It costs a look at each page, and passes through the pages that have one that is out.
+    /// How many own children are out. It costs a look at each page, and passes through the pages that have one that is
+    /// out.
     pub fn outs(&self) -> usize
         ensures { result ≡ outs_of self.now.own }
     {
         self.own.count(Wanted::Out)
     }
 
-    /// The ready own child of least serial from this one on. It costs a look at each page behind, and passes through two
-    /// pages at most.
+    /// The ready own child of least serial from this one on. It costs a look at each page behind, and passes through
+    /// two pages at most.
     pub fn next_ready(&self, from: u32) -> Option<u32>
         ensures { result ≡ position_from (λ c. is_ready c.status) from (drop from self.now.own) }
     {

@@ -17,9 +17,9 @@ use spawn_frame::{Attempt, ChildName, ChildResult, Gift, Sibling, Site, Status, 
 use std::alloc::AllocError;
 
 impl Ledger {
-    /// Children of another site, given to this one at attempts of at least 1, become ready guests, those that aren't there
-    /// yet. None does where a later incarnation of their owner is known, or where all are there already. True where any
-    /// does. The only error is out of memory, which changes nothing.
+    /// Children of another site, given to this one at attempts of at least 1, become ready guests, those that aren't
+    /// there yet. None does where a later incarnation of their owner is known, or where all are there already. True
+    /// where any does. The only error is out of memory, which changes nothing.
     ///
     /// The cores call its parts, since a prefix that they don't believe has to be refused between them.
     pub fn receive_give(&mut self, from: Site, given: Given) -> Result<bool, AllocError>
@@ -62,8 +62,8 @@ impl Ledger {
         self.table.unit(Unit::Guest(name, attempt)).is_some()
     }
 
-    /// Children of another site become ready guests, those that aren't there yet; each keeps the prefix that is handed in.
-    /// The only error is out of memory, which changes nothing.
+    /// Children of another site become ready guests, those that aren't there yet; each keeps the prefix that is handed
+    /// in. The only error is out of memory, which changes nothing.
     pub fn admit_each(&mut self, from: Site, gifts: Vec<Gift>) -> Result<(), AllocError>
         requires not_older { is_older self.old.known from ≡ false }
         requires some_new { list_all (is_there from self.old.guests) gifts.items ≡ false }
@@ -97,8 +97,9 @@ impl Ledger {
     }
 
     /// An open guest is wanted no more, since its owner refused its result or aborted it: it is dropped. All open units
-    /// below become Aborted, and each of them that was out is appended to the list, by serial. True where it is dropped;
-    /// a guest that isn't there or isn't open is left as it is. The only error is out of memory, which changes nothing.
+    /// below become Aborted, and each of them that was out is appended to the list, by serial. True where it is
+    /// dropped; a guest that isn't there or isn't open is left as it is. The only error is out of memory, which changes
+    /// nothing.
     ///
     /// It costs looks for the guest, and where it is dropped a walk down to what is below it, and the aborts.
     pub fn receive_refuse(

@@ -61,7 +61,8 @@ fn gifts_below(alloc: Global, prefix: &[u16], siblings: &[Sibling]) -> Result<Ve
 fn gift_below(alloc: Global, prefix: &[u16], sibling: Sibling) -> Result<Gift, AllocError>
     ensures { IfOk result (λ gift. gift ≡ sibling_gift prefix.now sibling) }
 {
-    // (a copy for each guest, since its parent is at another site; the sum saturates, as no contract here bounds the prefix)
+    // (a copy for each guest, since its parent is at another site; the sum saturates, as no contract here bounds the
+    // prefix)
     let mut whole = Vec::with_capacity(alloc, prefix.len().saturating_add(1))?;
     whole.extend_from_slice(prefix)?;
     whole.push(sibling.option)?;

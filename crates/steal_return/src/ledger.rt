@@ -164,12 +164,12 @@ impl Ledger {
         self.table.set_result(unit, child_result)
     }
 
-    /// Gives a settled frame its result: the cover of its child of least serial that has one, else Empty. All open units
-    /// below become Aborted, and each of them that was out is appended to the list, by serial. The only error is out of
-    /// memory, which changes nothing.
+    /// Gives a settled frame its result: the cover of its child of least serial that has one, else Empty. All open
+    /// units below become Aborted, and each of them that was out is appended to the list, by serial. The only error is
+    /// out of memory, which changes nothing.
     ///
-    /// It costs the copy of the cover, a walk down to what is below the frame, and the aborts, however many other units there
-    /// are.
+    /// It costs the copy of the cover, a walk down to what is below the frame, and the aborts, however many other units
+    /// there are.
     pub fn finish(&mut self, unit: Unit, list: &mut Vec<Out>) -> Result<(), AllocError>
         requires split { has_status is_split (unit_of self.old.table unit) ≡ true }
         requires settled { IsSome (frame_result (frame unit self.old.own)) }
@@ -192,8 +192,8 @@ impl Ledger {
         Ok(())
     }
 
-    /// What a settled frame came to; the only error is out of memory. It costs looks for the unit and for the child that
-    /// has the cover, and the copy of it.
+    /// What a settled frame came to; the only error is out of memory. It costs looks for the unit and for the child
+    /// that has the cover, and the copy of it.
     pub fn frame_result(&self, unit: Unit) -> Result<ChildResult, AllocError>
         requires split { has_status is_split (unit_of self.now.table unit) ≡ true }
         requires settled { IsSome (frame_result (frame unit self.now.own)) }

@@ -17,8 +17,8 @@ use abort_tree::{Descendants, Out, parents_decide};
 use spawn_frame::{Site, Unit};
 
 impl Ledger {
-    /// Whether the incarnations of nodes 1, 2, .. can be learnt: no own child that would have to be redone stands at its
-    /// last attempt. It costs a walk over the own children that are out.
+    /// Whether the incarnations of nodes 1, 2, .. can be learnt: no own child that would have to be redone stands at
+    /// its last attempt. It costs a walk over the own children that are out.
     pub fn may_learn(&self, incarnations: &[u32]) -> bool
         ensures able { OnTrue result
             (IsRedoable (is_older
@@ -105,8 +105,8 @@ impl Ledger {
         Ok(())
     }
 
-    /// Whether it makes a difference that these incarnations are known and these guests lost. Without a new incarnation no child has to be
-    /// redone, since none is out to an earlier one than is known.
+    /// Whether it makes a difference that these incarnations are known and these guests lost. Without a new incarnation
+    /// no child has to be redone, since none is out to an earlier one than is known.
     fn differs(&self, known: &Known, lost: &[Unit]) -> bool
         ensures differs { OnTrue result (Differs self.now known.now lost.now) }
         ensures alike { OnFalse result (IsAlike self.now known.now lost.now) }

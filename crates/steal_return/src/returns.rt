@@ -11,9 +11,9 @@ use spawn_frame::{Attempt, Cause, ChildResult, Site, Status, Unit};
 use std::alloc::AllocError;
 
 impl Ledger {
-    /// Judges a result that a site returns for an own child at an attempt. It enters where the child is out to that very
-    /// site at that attempt; a child that is done answers with the result that it has. It takes no memory, and costs
-    /// nothing.
+    /// Judges a result that a site returns for an own child at an attempt. It enters where the child is out to that
+    /// very site at that attempt; a child that is done answers with the result that it has. It takes no memory, and
+    /// costs nothing.
     pub fn judge(&self, from: Site, serial: u32, attempt: Attempt) -> Judged<'_>
         ensures judged { judgement_of result ≡ judged (slice_get self.now.own serial) from attempt }
         ensures out { judgement_of result ≡ Enters →

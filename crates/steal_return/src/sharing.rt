@@ -18,8 +18,8 @@ use spawn_frame::{MOST_SIBLINGS, Table, Unit};
 /// No share is larger than that of so many ready children.
 pub const MOST_READY: usize = 2 * MOST_SIBLINGS - 1;
 
-/// The children that a thief gets with this one, which is the ready one of least serial. It takes no memory, and costs a look
-/// at each later child of its parent until 15 are ready.
+/// The children that a thief gets with this one, which is the ready one of least serial. It takes no memory, and costs
+/// a look at each later child of its parent until 15 are ready.
 pub fn share_with(table: &Table, serial: u32) -> ArrayVec<u32, MOST_READY>
     requires there { serial < length table.now.own }
     requires least { first_ready table.now.own ≡ Some serial }

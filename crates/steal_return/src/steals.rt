@@ -21,8 +21,9 @@ use spawn_frame::{Gift, Sibling, Siblings, Site, Status, Unit};
 use std::alloc::AllocError;
 
 impl Ledger {
-    /// The own child that a thief may be given: the ready one of least serial. None where there is none, or where a later
-    /// incarnation of the thief's node is known. It takes no memory, and costs what the table's `next_ready` does.
+    /// The own child that a thief may be given: the ready one of least serial. None where there is none, or where a
+    /// later incarnation of the thief's node is known. It takes no memory, and costs what the table's `next_ready`
+    /// does.
     pub fn ready_child(&self, thief: Site) -> Option<u32>
         ensures { MatchOption result (GivesNothing self.now thief) (MayGive self.now thief) }
     {
@@ -33,10 +34,10 @@ impl Ledger {
         first_ready(&self.table)
     }
 
-    /// The own children that a thief may be given: with the ready one of least serial the first ready ones of its parent,
-    /// as many as half of those rounded up, and at most eight. None where none is ready, or where a later incarnation of
-    /// the thief's node is known. It takes no memory. It costs what the table's `next_ready` does, and a look at each
-    /// later child of that parent until 15 of them are ready.
+    /// The own children that a thief may be given: with the ready one of least serial the first ready ones of its
+    /// parent, as many as half of those rounded up, and at most eight. None where none is ready, or where a later
+    /// incarnation of the thief's node is known. It takes no memory. It costs what the table's `next_ready` does, and a
+    /// look at each later child of that parent until 15 of them are ready.
     pub fn ready_share(&self, thief: Site) -> Option<ArrayVec<u32, MOST_READY>>
         ensures { MatchOption result (GivesNothing self.now thief)
             (λ serials. MayShare self.now thief serials.items) }
@@ -132,8 +133,8 @@ impl Ledger {
         self.table.give(serial, thief);
     }
 
-    /// Gives children that may go together to a thief, of whose node no later incarnation is known: they are out then. It
-    /// takes no memory, and costs passes through the page of each.
+    /// Gives children that may go together to a thief, of whose node no later incarnation is known: they are out then.
+    /// It takes no memory, and costs passes through the page of each.
     pub fn give_each(&mut self, serials: &[u32], thief: Site)
         requires not_older { is_older self.old.known thief ≡ false }
         requires together { MayGoTogether self.old.own serials.now }

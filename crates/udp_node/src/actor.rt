@@ -43,8 +43,8 @@ impl<'a, J: Run, C: Core + Drop, N: CellName, H: Gate + Follower> Actor<'a, J, C
         })
     }
 
-    /// Hands an event to the site's cell, and once it is entered puts its packets into the outbox. The lock of the core is free by then,
-    /// so that no thread waits for it while packets are written. Returns what was entered.
+    /// Hands an event to the site's cell, and once it is entered puts its packets into the outbox. The lock of the core
+    /// is free by then, so that no thread waits for it while packets are written. Returns what was entered.
     ///
     /// # Errors
     ///
@@ -85,7 +85,8 @@ impl<'a, J: Run, C: Core + Drop, N: CellName, H: Gate + Follower> Actor<'a, J, C
         context.hooks.grown(books.taken(), books.most());
     }
 
-    /// Signals to the other threads of the site what came of an event: that there may be something to do, or that work is short.
+    /// Signals to the other threads of the site what came of an event: that there may be something to do, or that work
+    /// is short.
     fn signal(&self, step: &Step, stirs: bool) {
         let signals = self.shared.signals;
         let reply = step.reply();
@@ -126,8 +127,8 @@ impl<'a, J: Run, C: Core + Drop, N: CellName, H: Gate + Follower> Actor<'a, J, C
     }
 }
 
-/// Whether an idle worker may have something to do after the event. One that asks others for work, or reports that they ask, leaves
-/// none.
+/// Whether an idle worker may have something to do after the event. One that asks others for work, or reports that they
+/// ask, leaves none.
 fn may_stir(event: &Event) -> bool {
     match event {
         Event::Take | Event::Ask(_) | Event::Again | Event::Greet => false,

@@ -1,8 +1,9 @@
 //! What an incarnation of a site has entered, and need not receive again.
 //!
-//! A Give is said again for as long as the job lasts, since the thief's answer is the result. Each repeat would be an entry of the thief's
-//! book and a turn of two threads, and in long runs most packets are such. Of Return, Steal and Hello the answer may have
-//! been lost, and Abort, Refuse and Accept are ignored only until what they speak of comes, so these are heard each time.
+//! A Give is said again for as long as the job lasts, since the thief's answer is the result. Each repeat would be an
+//! entry of the thief's book and a turn of two threads, and in long runs most packets are such. Of Return, Steal and
+//! Hello the answer may have been lost, and Abort, Refuse and Accept are ignored only until what they speak of comes,
+//! so these are heard each time.
 
 use packet_wire::{Body, Packet};
 use spawn_frame::{Attempt, Site};
@@ -22,10 +23,10 @@ struct Gift {
 
 /// The children that an incarnation of a site was given most recently, and the most recent Members.
 ///
-/// A guest never leaves the table, whatever becomes of it, and incarnations that are known only grow. So the core ignores a Give
-/// more of such a child, and the same Members once more, for as long as the incarnation lasts: they need not be delivered. Of what else
-/// is said again the answer may have been lost, so that is delivered each time. Whole keys are kept, since a hash that two children
-/// share would lose one of them.
+/// A guest never leaves the table, whatever becomes of it, and incarnations that are known only grow. So the core
+/// ignores a Give more of such a child, and the same Members once more, for as long as the incarnation lasts: they need
+/// not be delivered. Of what else is said again the answer may have been lost, so that is delivered each time. Whole
+/// keys are kept, since a hash that two children share would lose one of them.
 #[derive(Drop)]
 pub struct EnteredGifts {
     gifts: Vec<Gift>,

@@ -1,8 +1,9 @@
 //! What the workers of a node tell each other of the problem.
 //!
-//! Workers of one node share the same part of the tree, so each would meet an equal part as if nobody had searched it. Each worker has its
-//! own table of kept states, since one that all share would need locks, which the search doesn't take; so what is dear enough is said: a
-//! prefix below which there is no cover, if a search of it counts thousands of visits. No packet is sent and no answer depends on it.
+//! Workers of one node share the same part of the tree, so each would meet an equal part as if nobody had searched it.
+//! Each worker has its own table of kept states, since one that all share would need locks, which the search doesn't
+//! take; so what is dear enough is said: a prefix below which there is no cover, if a search of it counts thousands of
+//! visits. No packet is sent and no answer depends on it.
 
 ghost use Rattle.std.specs.Prelude.{◌≡◌, None, true};
 ghost use Rattle.cover_problem.specs.Prefix.{is_prefix};
@@ -20,8 +21,8 @@ use std::sync::Wait;
 /// Chosen, not measured.
 pub const INBOX: usize = 256;
 
-/// Where the workers of a node tell each other below which prefixes there is no cover. Each has searched but a part of the tree, and
-/// keeps what it found there: where another part is equal, the one that searches it is to know as well.
+/// Where the workers of a node tell each other below which prefixes there is no cover. Each has searched but a part of
+/// the tree, and keeps what it found there: where another part is equal, the one that searches it is to know as well.
 ///
 /// No answer depends on what is heard: it saves visits.
 #[derive(Drop)]
@@ -42,8 +43,8 @@ impl<J: Run> Exchange<J> {
         Ok(Exchange { inboxes })
     }
 
-    /// Tells all workers but one that there is no cover below a prefix, and how many visits a search of it takes. Those whose inbox is full,
-    /// and all where memory runs out, don't hear it.
+    /// Tells all workers but one that there is no cover below a prefix, and how many visits a search of it takes. Those
+    /// whose inbox is full, and all where memory runs out, don't hear it.
     pub fn tell<R: Wait>(&self, rt: &R, alloc: Global, from: u8, prefix: &[u16], count: u64)
         requires prefix { is_prefix J.run.problem prefix.now ≡ true }
         requires barren { first J.run.problem prefix.now ≡ None }

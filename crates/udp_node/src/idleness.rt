@@ -1,7 +1,8 @@
 //! What a worker does while there is no work: it asks, waits, or looks again at once.
 //!
-//! Work is near as long as others have some, and who asks sooner gets it sooner, so at first few idle turns wait; later more do, and longer.
-//! In a simulation of four workers that made a run 1.3 % faster. A wait is no turn, since a worker that was idle for long would else be gone.
+//! Work is near as long as others have some, and who asks sooner gets it sooner, so at first few idle turns wait; later
+//! more do, and longer. In a simulation of four workers that made a run 1.3 % faster. A wait is no turn, since a worker
+//! that was idle for long would else be gone.
 
 ghost use Rattle.std.specs.Prelude.{◌≤◌};
 
@@ -72,10 +73,12 @@ fn stride(idle: u32) -> u32
     }
 }
 
-/// How long an idle turn waits, in microseconds, after so many in a row: min(20 + idle / 64 · workers, max(1,000, 125 · workers)).
+/// How long an idle turn waits, in microseconds, after so many in a row: min(20 + idle / 64 · workers, max(1,000, 125 ·
+/// workers)).
 ///
-/// The longest wait grows with the workers, so that those of a run ask at most some 125 times a second together, however many they are. It gets
-/// longer by one for each worker whenever this one asks again, so that many that ask at once leave those at work alone.
+/// The longest wait grows with the workers, so that those of a run ask at most some 125 times a second together,
+/// however many they are. It gets longer by one for each worker whenever this one asks again, so that many that ask at
+/// once leave those at work alone.
 fn nap(idle: u32, workers: u64) -> u64 {
     let longest = workers.saturating_mul(125).max(1_000);
     let more = u64::from(idle / ASKING).saturating_mul(workers);

@@ -6,8 +6,8 @@ ghost use Rattle.udp_node.specs.Incarnations.{incarnation_plan};
 
 use site_limits::{Plan, Timing};
 
-/// Returns how each incarnation of a site works that restarts so many times in a run of this plan: whether the search was over in an
-/// earlier one. Each begins with an empty table.
+/// Returns how each incarnation of a site works that restarts so many times in a run of this plan: whether the search
+/// was over in an earlier one. Each begins with an empty table.
 pub fn plan_of_incarnation(plan: Plan, restarts: u8, is_over: bool) -> Plan
     ensures { result ≡ incarnation_plan plan restarts is_over }
 {

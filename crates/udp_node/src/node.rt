@@ -37,8 +37,8 @@ enum Task<L: Link> {
 }
 
 impl<L: Link> Task<L> {
-    /// Whether the site ends where the thread ended by this cause. Without the one that receives, nothing gets there any more; a
-    /// worker whose turns are over leaves the rest to the others.
+    /// Whether the site ends where the thread ended by this cause. Without the one that receives, nothing gets there
+    /// any more; a worker whose turns are over leaves the rest to the others.
     fn ends_site(&self, cause: EndCause) -> bool {
         match self {
             Task::Work(_) => !matches!(cause, EndCause::Over | EndCause::Turns),
@@ -136,10 +136,11 @@ fn receive<J: Run, C: Core + Drop, N: CellName, L: Link, H: Gate + Follower, R: 
     receiving.run(limits)
 }
 
-/// Runs the threads of a node to their ends: its workers, one that receives and one that sends. All seats come back, unless memory
-/// ran out at the start: then none does, and no thread has taken a turn.
+/// Runs the threads of a node to their ends: its workers, one that receives and one that sends. All seats come back,
+/// unless memory ran out at the start: then none does, and no thread has taken a turn.
 ///
-/// This is for who runs one site by itself, over links of its own, as a process for each site would. `run_sites` runs all sites of a run.
+/// This is for who runs one site by itself, over links of its own, as a process for each site would. `run_sites` runs
+/// all sites of a run.
 pub fn run_node<
     J: Run + Send + Sync,
     C: Core + Drop + Send,
@@ -177,8 +178,8 @@ pub fn run_node<
     run_threads(rt, &context, cell, plan, link)
 }
 
-/// Runs the threads of the registry to their ends: one that receives and one that sends. The seat comes back, unless memory ran out
-/// at the start: then it doesn't, and no thread has taken a turn.
+/// Runs the threads of the registry to their ends: one that receives and one that sends. The seat comes back, unless
+/// memory ran out at the start: then it doesn't, and no thread has taken a turn.
 ///
 /// As `run_node`, this is for who runs one site by itself.
 pub fn run_root<
@@ -215,8 +216,8 @@ pub fn run_root<
     run_threads(rt, &context, cell, plan, link)
 }
 
-/// Runs the threads of a site in one of its incarnations, as `run_node` and `run_root` do, and ends them where the run ends. A plan without
-/// workers is that of the registry.
+/// Runs the threads of a site in one of its incarnations, as `run_node` and `run_root` do, and ends them where the run
+/// ends. A plan without workers is that of the registry.
 pub(crate) fn run_threads<
     J: Run + Send + Sync,
     C: Core + Drop + Send,
@@ -272,8 +273,8 @@ struct Crew<'a, J: Run, C: Core + Drop, N: CellName, L: Link, H: Gate + Follower
 }
 
 impl<'a, J: Run, C: Core + Drop, N: CellName, L: Link, H: Gate + Follower> Crew<'a, J, C, N, L, H> {
-    /// The threads before their start: the one that receives, and so many workers. The only error is out of memory, or that no
-    /// seats are left.
+    /// The threads before their start: the one that receives, and so many workers. The only error is out of memory, or
+    /// that no seats are left.
     fn new<R: Wait>(
         rt: &R,
         shared: &'a Shared<'a, J, C, N, H>,
@@ -341,8 +342,8 @@ fn run_acting<
     );
 }
 
-/// The threads before their start: the one that receives, and so many workers. The only error is out of memory, or that no seats
-/// are left.
+/// The threads before their start: the one that receives, and so many workers. The only error is out of memory, or that
+/// no seats are left.
 fn threads_for<'a, J: Run, C: Core + Drop, N: CellName, L: Link, H: Gate + Follower, R: Wait>(
     rt: &R,
     shared: &'a Shared<'a, J, C, N, H>,

@@ -1,12 +1,12 @@
 //! A clock that stands still while the process does.
 //!
-//! A process that was stopped, or a machine that slept, wakes to a clock that is far ahead, and would take the silence of its own absence for that
-//! of the others. So no more than a tenth of a second counts from one look to the next.
+//! A process that was stopped, or a machine that slept, wakes to a clock that is far ahead, and would take the silence
+//! of its own absence for that of the others. So no more than a tenth of a second counts from one look to the next.
 
 use std::time::{Clock, Duration, Instant};
 
-/// How many milliseconds count at most from one look at the clock to the next: where the whole process was held up for longer, nothing
-/// could come meanwhile, so the site was not left alone.
+/// How many milliseconds count at most from one look at the clock to the next: where the whole process was held up for
+/// longer, nothing could come meanwhile, so the site was not left alone.
 const MOST: u64 = 100;
 
 /// How many count where the clock can't be read: what a receive takes that waits.

@@ -30,8 +30,8 @@ const FLOOD: u32 = 1_024;
 /// time. Chosen, not measured.
 const FAULTS: u32 = 100;
 
-/// How long the thread waits after an empty receive, in microseconds: a link in memory doesn't wait by itself, and at the end no
-/// socket does.
+/// How long the thread waits after an empty receive, in microseconds: a link in memory doesn't wait by itself, and at
+/// the end no socket does.
 const NAP: u64 = 20;
 
 /// What a receiving thread keeps from turn to turn.
@@ -69,8 +69,9 @@ impl<L: Link> Receiver<L> {
         (self.dropped, self.link.failures())
     }
 
-    /// Receives once, and passes strangers' datagrams over, which a link brings without their bytes. Nothing comes of them but that they
-    /// are counted: else a flood of them could use up the turns of the site, or keep it from what it does by itself.
+    /// Receives once, and passes strangers' datagrams over, which a link brings without their bytes. Nothing comes of
+    /// them but that they are counted: else a flood of them could use up the turns of the site, or keep it from what it
+    /// does by itself.
     fn received<R: Wait>(&mut self, rt: &R, buffer: &mut [u8]) -> Result<Option<usize>, LinkFault>
         ensures { IfOk result (λ came. IfSome came (λ bytes. bytes ≤ length buffer.old)) }
     {
@@ -102,7 +103,8 @@ impl<L: Link> Receiver<L> {
         Turn::Waited
     }
 
-    /// What a turn came to; the thread ends where the site is to end by this cause, or nothing shows the run going on for long.
+    /// What a turn came to; the thread ends where the site is to end by this cause, or nothing shows the run going on
+    /// for long.
     fn unless_it_ends(&mut self, turn: Turn, ending: Option<EndCause>, is_empty: bool) -> Turn {
         match ending {
             Some(cause) if self.schedule.end_if_quiet(self.now, is_empty) => self.ended_by(cause),
@@ -193,8 +195,8 @@ impl<
         }
     }
 
-    /// Greets the registry, if it is time to: while workers search nothing else may be sent for long, and after a long silence registry
-    /// and nodes give up.
+    /// Greets the registry, if it is time to: while workers search nothing else may be sent for long, and after a long
+    /// silence registry and nodes give up.
     fn greet(&mut self) -> Turn {
         let (node, now) = (self.actor.shared.cell.site().node, self.receiver.now);
         if node == 0 || !self.receiver.schedule.greet_if_due(now) {
@@ -203,8 +205,9 @@ impl<
         after(self.actor.act(self.rt, Event::Greet))
     }
 
-    /// Receives once, and looks whether the site can go on. Whether the run is over is read before the receive: the registry announces the
-    /// end first, so a receive that is empty after that shows that the node has received it, or never will.
+    /// Receives once, and looks whether the site can go on. Whether the run is over is read before the receive: the
+    /// registry announces the end first, so a receive that is empty after that shows that the node has received it, or
+    /// never will.
     fn receive(&mut self) -> Turn {
         let ending = self.actor.shared.cause_once_drained(self.rt);
         let mut buffer = [0; BUFFER];
@@ -221,8 +224,8 @@ impl<
         }
     }
 
-    /// A datagram came: if it is a packet, it is delivered. One that is none takes no turn, and neither does one that brings only what was
-    /// entered: that may show the run going on, but each would be an entry of the book.
+    /// A datagram came: if it is a packet, it is delivered. One that is none takes no turn, and neither does one that
+    /// brings only what was entered: that may show the run going on, but each would be an entry of the book.
     fn hear(&mut self, bytes: &[u8]) -> Turn {
         if bytes.len() >= BUFFER {
             return self.receiver.drop_datagram();
@@ -289,7 +292,8 @@ fn nap<R: Wait + Clock>(rt: &R) -> Turn {
     Turn::Waited
 }
 
-/// Whether a site of this node, where it puts these packets out, has published an answer: the registry accepts none but the root's result.
+/// Whether a site of this node, where it puts these packets out, has published an answer: the registry accepts none but
+/// the root's result.
 fn tells_end(node: u8, packets: &[Packet]) -> bool {
     node == 0
         && packets.iter().any(|packet| matches!(packet.body, Body::Over | Body::Accept { .. }))

@@ -26,32 +26,34 @@ use std::time::Clock;
 pub struct RunEnd<J: Run> {
     /// What the registry published, by its book; nothing where it published nothing, or its book is not there.
     pub answer: Option<Answer>,
-    /// The books of the sites that closed, the registry's first and the nodes' in their order; of a node that restarted, one of each
-    /// incarnation.
+    /// The books of the sites that closed, the registry's first and the nodes' in their order; of a node that
+    /// restarted, one of each incarnation.
     pub books: Vec<Book<J>>,
     /// How each site ended, the registry first and the nodes in their order.
     pub sites: Vec<SiteEnd>,
 }
 
-/// Runs a search over these links, one for each site and the registry's first, each site on threads of its own, until all have
-/// ended; then closes each site's cell.
+/// Runs a search over these links, one for each site and the registry's first, each site on threads of its own, until
+/// all have ended; then closes each site's cell.
 ///
-/// Node 1 restarts as often as the plan has it, each time with an empty table and the next incarnation, whatever it held. Its turns
-/// are shared evenly among its incarnations, and in all but the last an empty receive is a turn. Its link stays open over all of them.
-/// Once the search is over at an incarnation, the later ones give up at their first receive without a packet.
+/// Node 1 restarts as often as the plan has it, each time with an empty table and the next incarnation, whatever it
+/// held. Its turns are shared evenly among its incarnations, and in all but the last an empty receive is a turn. Its
+/// link stays open over all of them. Once the search is over at an incarnation, the later ones give up at their first
+/// receive without a packet.
 ///
-/// A limited run ends soon after so much time has passed since the call, as each site looks at the clock before it receives. What the
-/// registry published by then is the answer.
+/// A limited run ends soon after so much time has passed since the call, as each site looks at the clock before it
+/// receives. What the registry published by then is the answer.
 ///
-/// The books of all sites are bounded together, in bytes, and each by itself, in entries. Where a bound is met, that site ends.
+/// The books of all sites are bounded together, in bytes, and each by itself, in entries. Where a bound is met, that
+/// site ends.
 ///
-/// All sites end where one has failed: with any cause but that the search is over, once a thread of each kind has begun there. A site
-/// that had no memory to start or to close has no book.
+/// All sites end where one has failed: with any cause but that the search is over, once a thread of each kind has begun
+/// there. A site that had no memory to start or to close has no book.
 ///
 /// # Errors
 ///
-/// The only error is out of memory for the run itself: for its tables and the list of its sites before any has started, or for the
-/// answer at the end.
+/// The only error is out of memory for the run itself: for its tables and the list of its sites before any has started,
+/// or for the answer at the end.
 pub fn run_sites<
     J: Run + Send + Sync,
     L: Link + Send,

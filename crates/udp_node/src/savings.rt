@@ -1,6 +1,6 @@
-//! Where kept states save so many visits for each that is made, one worker of a node is as fast as several: the others would only find the
-//! same states once more. They come back after thousands of visits that saved less, of however many searches: one long search wouldn't be
-//! seen where jobs are short.
+//! Where kept states save so many visits for each that is made, one worker of a node is as fast as several: the others
+//! would only find the same states once more. They come back after thousands of visits that saved less, of however many
+//! searches: one long search wouldn't be seen where jobs are short.
 
 /// Where kept states save so many visits for each that is made, one worker of a node is as fast as several. To work
 /// alone where they save a fifth was tried and not kept (`bench/TRIED.md`); the number itself was chosen.
@@ -21,7 +21,8 @@ pub enum Shown {
     Nothing,
 }
 
-/// How many visits a worker's searches made, and how many were gone by them, since they last showed how much its kept states save.
+/// How many visits a worker's searches made, and how many were gone by them, since they last showed how much its kept
+/// states save.
 #[derive(Clone, Copy, Debug, PartialEq, Eq)]
 pub struct Savings {
     made: u64,
@@ -34,8 +35,9 @@ impl Savings {
         Savings { made: 0, gone: 0 }
     }
 
-    /// Counts a search that made so many visits, by which so many were gone, and returns what is shown now. A search that saves much shows
-    /// it by itself; that they save little, many visits show together, however short each search is.
+    /// Counts a search that made so many visits, by which so many were gone, and returns what is shown now. A search
+    /// that saves much shows it by itself; that they save little, many visits show together, however short each search
+    /// is.
     pub fn note(&mut self, made: u64, gone: u64) -> Shown {
         self.made = self.made.saturating_add(made);
         self.gone = self.gone.saturating_add(gone);

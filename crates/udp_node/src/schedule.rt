@@ -1,8 +1,8 @@
 //! When a site acts although nothing came: greetings, repeats, silence, the end.
 //!
-//! By a clock, not by counting receives, whose length depends on the system's tick and on traffic. What may be lost is repeated 160
-//! milliseconds after something was said, then after twice as long each time (exponential backoff, as in TCP, RFC 6298), up to 5.12 seconds:
-//! what wasn't lost needs it no more.
+//! By a clock, not by counting receives, whose length depends on the system's tick and on traffic. What may be lost is
+//! repeated 160 milliseconds after something was said, then after twice as long each time (exponential backoff, as in
+//! TCP, RFC 6298), up to 5.12 seconds: what wasn't lost needs it no more.
 
 use site_limits::Timing;
 
@@ -24,8 +24,8 @@ const END_AGAINS: u64 = 20;
 /// may be among them. Chosen, not measured.
 const GRACE: u64 = 1_000_000;
 
-/// When the thread that receives at a site acts although nothing came. All times are in microseconds of the thread's own
-/// [time](crate::own_time::OwnTime).
+/// When the thread that receives at a site acts although nothing came. All times are in microseconds of the thread's
+/// own [time](crate::own_time::OwnTime).
 #[derive(Clone, Copy, Debug, PartialEq, Eq)]
 pub struct Schedule {
     timing: Timing,
@@ -48,7 +48,8 @@ pub struct Schedule {
 }
 
 impl Schedule {
-    /// That of a thread which begins now, at a site whose threads have so many turns, and which another incarnation follows or not.
+    /// That of a thread which begins now, at a site whose threads have so many turns, and which another incarnation
+    /// follows or not.
     pub fn new(timing: Timing, turns: u64, is_last: bool) -> Schedule {
         let lasts = turns.saturating_mul(timing.turn.saturating_mul(MILLI));
         let pause = timing.again.saturating_mul(MILLI);
@@ -93,10 +94,11 @@ impl Schedule {
         now.saturating_sub(self.heard) >= self.timing.silence.saturating_mul(MILLI)
     }
 
-    /// Answers whether what may be lost is to be said again now, where so much was said in all. It counts as said again then.
+    /// Answers whether what may be lost is to be said again now, where so much was said in all. It counts as said again
+    /// then.
     ///
-    /// After something new was said it is said again soon, and then each time after twice as long, since what was not lost
-    /// needs it no more. Once the search is over it is the end that is announced.
+    /// After something new was said it is said again soon, and then each time after twice as long, since what was not
+    /// lost needs it no more. Once the search is over it is the end that is announced.
     pub fn repeat_if_due(&mut self, now: u64, said: u64) -> bool {
         if said != self.said {
             self.said = said;
@@ -137,7 +139,8 @@ impl Schedule {
         self.announcements_left == Some(0)
     }
 
-    /// Answers whether a site that is to end ends now: where its receive was empty, or packets came for long since it was first asked.
+    /// Answers whether a site that is to end ends now: where its receive was empty, or packets came for long since it
+    /// was first asked.
     pub fn end_if_quiet(&mut self, now: u64, is_empty: bool) -> bool {
         let seen = *self.ending.get_or_insert(now);
         is_empty || now.saturating_sub(seen) >= GRACE

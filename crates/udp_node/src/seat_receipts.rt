@@ -1,7 +1,7 @@
 //! The receipts of a thread for the events that it brought to its site's core.
 //!
-//! A cell counts the seats that it gave and the events of each, and closes only with all seats and as many receipts: so no event is missing
-//! in the books of a run that has ended.
+//! A cell counts the seats that it gave and the events of each, and closes only with all seats and as many receipts: so
+//! no event is missing in the books of a run that has ended.
 
 ghost use Rattle.std.specs.Prelude.{◌≡◌, ◌+◌, vec_len, IfErr, IfOk};
 ghost use Rattle.node_core.specs.Refusal.{IsFit};
@@ -51,7 +51,8 @@ impl<N: CellName> SeatReceipts<N> {
         })
     }
 
-    /// Hands an event to the cell, and returns what was entered. Room for the token is reserved before, so that no receipt is lost.
+    /// Hands an event to the cell, and returns what was entered. Room for the token is reserved before, so that no
+    /// receipt is lost.
     ///
     /// # Errors
     ///

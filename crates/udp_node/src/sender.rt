@@ -35,8 +35,8 @@ pub struct Sender<'a, L: Link> {
     pub ghost same: { drain.outbox ≡ outbox.now },
 }
 
-/// Sends what is in the outbox, in its order, until no other thread of the site is at work and the outbox is empty. Where the site is to end
-/// already, nothing is sent.
+/// Sends what is in the outbox, in its order, until no other thread of the site is at work and the outbox is empty.
+/// Where the site is to end already, nothing is sent.
 pub fn send_all<L: Link, R: Wait + Clock>(rt: &R, sender: Sender<'_, L>) -> Sent {
     if sender.signals.is_stopped() {
         return Sent {

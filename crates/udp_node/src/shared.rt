@@ -27,8 +27,9 @@ pub struct Shared<'a, J: Run, C: Core + Drop, N: CellName, H: Gate + Follower> {
 }
 
 impl<J: Run, C: Core + Drop, N: CellName, H: Gate + Follower> Shared<'_, J, C, N, H> {
-    /// Waits until a thread of each kind has begun, for some two seconds at most. Then the nodes may begin, if the site is the registry's:
-    /// they wait for it, so that it gets its threads where few can be started. Where a thread is missing the site ends.
+    /// Waits until a thread of each kind has begun, for some two seconds at most. Then the nodes may begin, if the site
+    /// is the registry's: they wait for it, so that it gets its threads where few can be started. Where a thread is
+    /// missing the site ends.
     pub fn muster<R: Clock>(&self, rt: &R) {
         self.signals.muster(rt);
         if self.cell.site().node == 0 && self.signals.is_manned() {
@@ -47,7 +48,8 @@ impl<J: Run, C: Core + Drop, N: CellName, H: Gate + Follower> Shared<'_, J, C, N
         self.signals.is_stopped() || self.context.ending.has_come(rt)
     }
 
-    /// Why the thread that receives is to end once a receive is empty, if it is: with the site or the run, or since no worker is left.
+    /// Why the thread that receives is to end once a receive is empty, if it is: with the site or the run, or since no
+    /// worker is left.
     pub fn cause_once_drained<R: Clock>(&self, rt: &R) -> Option<EndCause> {
         // (the registry has no workers, so its one thread that acts is alone from the start)
         let is_deserted = self.cell.site().node != 0 && self.signals.is_deserted();

@@ -1,7 +1,7 @@
 //! What the threads of a site tell one another beside the lock of its core.
 //!
-//! Counts and flags in atomics, and a parker for each thread that waits: a rousing leaves a token, so none is lost between a look and a wait. All of
-//! it is hints. A stale one costs a look at the core, or a wait, and never an answer.
+//! Counts and flags in atomics, and a parker for each thread that waits: a rousing leaves a token, so none is lost
+//! between a look and a wait. All of it is hints. A stale one costs a look at the core, or a wait, and never an answer.
 
 use site_limits::Hunger;
 use std::sync::Wait;
@@ -22,9 +22,9 @@ const DOZE: u64 = 60;
 /// How many workers a node has at most, as `--workers` allows.
 const WORKERS: usize = 8;
 
-/// What the threads of a site signal to one another without the lock of the core. No answer depends on it: it says when a look at the
-/// core is worth its entry in the book, how small a worker's job should be, which worker works alone, which threads have begun, and that
-/// all are to end.
+/// What the threads of a site signal to one another without the lock of the core. No answer depends on it: it says when
+/// a look at the core is worth its entry in the book, how small a worker's job should be, which worker works alone,
+/// which threads have begun, and that all are to end.
 #[derive(Drop)]
 pub struct Signals {
     /// The thread that receives has begun.
@@ -52,7 +52,8 @@ pub struct Signals {
 }
 
 impl Signals {
-    /// Returns the signals of a site at which so many threads are to act, workers among them or not, before any has begun.
+    /// Returns the signals of a site at which so many threads are to act, workers among them or not, before any has
+    /// begun.
     pub fn new(running: u64, has_workers: bool) -> Signals {
         Signals {
             receives: AtomicBool::new(false),
@@ -102,7 +103,8 @@ impl Signals {
 
     /// Waits until a thread of each kind has begun, or the site is to end. After some two seconds it ends the site.
     ///
-    /// The wait has a limit because a thread that can't be started runs after the others: without one, they would wait for it for ever.
+    /// The wait has a limit because a thread that can't be started runs after the others: without one, they would wait
+    /// for it for ever.
     pub fn muster<R: Clock>(&self, rt: &R) {
         for _look in 0..LOOKS {
             if self.is_manned() || self.is_stopped() {
@@ -125,8 +127,8 @@ impl Signals {
         self.sender.unpark();
     }
 
-    /// Waits, in the thread that sends, until it is roused. A parcel that came since its last look has left a token at the parker, so that
-    /// it doesn't wait at all.
+    /// Waits, in the thread that sends, until it is roused. A parcel that came since its last look has left a token at
+    /// the parker, so that it doesn't wait at all.
     pub fn doze<R: Wait>(&self, rt: &R) {
         self.sender.park_timeout(rt, Duration::from_secs(DOZE));
     }
@@ -166,7 +168,8 @@ impl Signals {
         &self.hunger
     }
 
-    /// The states that this worker keeps save so much that the others only found them once more: they leave it all jobs.
+    /// The states that this worker keeps save so much that the others only found them once more: they leave it all
+    /// jobs.
     pub fn work_alone(&self, worker: u8) {
         self.sole.store(u64::from(worker) + 1, Ordering::SeqCst);
     }
@@ -189,12 +192,14 @@ impl Signals {
         sole != 0 && sole != u64::from(worker) + 1
     }
 
-    /// Waits, in a worker that leaves all jobs to another, until it is roused: there is work for it again, or the site is to end.
+    /// Waits, in a worker that leaves all jobs to another, until it is roused: there is work for it again, or the site
+    /// is to end.
     pub fn spare<R: Wait>(&self, rt: &R, worker: u8) {
         self.idle(rt, worker, Duration::from_secs(DOZE));
     }
 
-    /// Waits so long, in a worker that found nothing to do, or until it is roused: at the end of the site none is waited for.
+    /// Waits so long, in a worker that found nothing to do, or until it is roused: at the end of the site none is
+    /// waited for.
     pub fn idle<R: Wait>(&self, rt: &R, worker: u8, nap: Duration) {
         if let Some(parker) = self.spared.get(usize::from(worker)) {
             parker.park_timeout(rt, nap);

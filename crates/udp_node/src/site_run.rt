@@ -82,9 +82,9 @@ impl<J: Run, L: Link> SiteRun<J, L> {
         })
     }
 
-    /// Runs all incarnations of the site to their ends, once, one after the other. A node waits until the registry's threads have begun,
-    /// so that the registry gets its own where few can be started. The run ends if the others can't go on without the site afterwards, or
-    /// no node is left.
+    /// Runs all incarnations of the site to their ends, once, one after the other. A node waits until the registry's
+    /// threads have begun, so that the registry gets its own where few can be started. The run ends if the others can't
+    /// go on without the site afterwards, or no node is left.
     pub fn run<H: Gate + Follower + Sync, R: Threads + Wait + Clock + Sync>(
         &mut self,
         rt: &R,
@@ -293,8 +293,8 @@ fn run_core<
     closed(run_context.context.alloc, cell, end)
 }
 
-/// Closes the cell of a site whose threads ended. There is no book where there was no memory to hand in all that it asks
-/// for, or some thread's seat is missing because the site had no memory to start its threads.
+/// Closes the cell of a site whose threads ended. There is no book where there was no memory to hand in all that it
+/// asks for, or some thread's seat is missing because the site had no memory to start its threads.
 fn closed<J: Run, C: Core + Drop, N: CellName>(
     alloc: Global,
     cell: SiteCell<J, C, N>,

@@ -227,7 +227,8 @@ impl<'r, 't, 's, J: Run, C: Core + Drop, N: CellName, H: Gate + Follower, R: Wai
         }
     }
 
-    /// Ends the site, since there was no room for a search: tried again and again, as a refused Post is, it would do nothing for hours.
+    /// Ends the site, since there was no room for a search: tried again and again, as a refused Post is, it would do
+    /// nothing for hours.
     fn end_unsearched(&mut self, job: Job, prefix: Numbers) -> Turn
         requires { is_prefix J.run.problem prefix ≡ true }
     {
@@ -248,7 +249,8 @@ impl<'r, 't, 's, J: Run, C: Core + Drop, N: CellName, H: Gate + Follower, R: Wai
         }
     }
 
-    /// Tells the node's other workers of a finding, if there is no cover and another search for it would take so many visits.
+    /// Tells the node's other workers of a finding, if there is no cover and another search for it would take so many
+    /// visits.
     fn tell_if_barren(&mut self, finding: &Finding, count: u64)
         requires { is_prefix J.run.problem finding.now.prefix ≡ true }
     {
@@ -257,8 +259,9 @@ impl<'r, 't, 's, J: Run, C: Core + Drop, N: CellName, H: Gate + Follower, R: Wai
         }
     }
 
-    /// Tells the node's other workers that there is no cover below a prefix, and the same of those before it, as far as what is kept
-    /// shows it: a frame of which all children are done is no job of anybody's, so nobody else finds it out.
+    /// Tells the node's other workers that there is no cover below a prefix, and the same of those before it, as far as
+    /// what is kept shows it: a frame of which all children are done is no job of anybody's, so nobody else finds it
+    /// out.
     fn tell(&mut self, prefix: &[u16])
         requires { is_prefix J.run.problem prefix.now ≡ true }
     {
@@ -276,8 +279,8 @@ impl<'r, 't, 's, J: Run, C: Core + Drop, N: CellName, H: Gate + Follower, R: Wai
         }
     }
 
-    /// Leaves the node's other workers something to do or not, by what the states saved: where they save very much, each other worker
-    /// would find the same states once more, and all would take longer than one does.
+    /// Leaves the node's other workers something to do or not, by what the states saved: where they save very much,
+    /// each other worker would find the same states once more, and all would take longer than one does.
     fn share(&mut self, watch: &SearchWatch<'_, H>) {
         let signals = self.actor.shared.signals;
         match self.savings.note(watch.made_visits(), watch.gone()) {
@@ -348,8 +351,8 @@ impl<'r, 't, 's, J: Run, C: Core + Drop, N: CellName, H: Gate + Follower, R: Wai
     }
 }
 
-/// The fuel of a search that may make so many visits. Where states are kept it is the greatest: fuel also counts visits that they save, and
-/// prefixes with very many would be split for ever, so the watch limits those that are made.
+/// The fuel of a search that may make so many visits. Where states are kept it is the greatest: fuel also counts visits
+/// that they save, and prefixes with very many would be split for ever, so the watch limits those that are made.
 fn search_fuel(keeps: bool, limit: u64) -> u64
     requires { 1 ≤ limit }
     ensures { 1 ≤ result }
@@ -362,7 +365,8 @@ fn workers_of(plan: Plan) -> u64 {
     u64::from(plan.nodes) * u64::from(plan.workers)
 }
 
-/// The room for states that one searcher of the run has: all of them together have what four searches by one thread have.
+/// The room for states that one searcher of the run has: all of them together have what four searches by one thread
+/// have.
 pub fn room_for(plan: Plan) -> u64 {
     (4 * TABLE_BYTES / workers_of(plan).max(1)).min(TABLE_BYTES)
 }

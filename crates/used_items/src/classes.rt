@@ -51,8 +51,8 @@ fn add_option(
 }
 
 impl Classes {
-    /// The classes of a problem's items: in their order, each item gets the first class that has none beside it in an option. Where the watch ends
-    /// that, further items have none. The only error is out of memory.
+    /// The classes of a problem's items: in their order, each item gets the first class that has none beside it in an
+    /// option. Where the watch ends that, further items have none. The only error is out of memory.
     pub(crate) fn new<W: ReasonWatch>(
         alloc: Global,
         problem: &Problem,
@@ -87,7 +87,8 @@ impl Classes {
         Ok(())
     }
 
-    /// Puts each secondary item without a colour into a class, as long as not too many items were looked at and the watch doesn't end it.
+    /// Puts each secondary item without a colour into a class, as long as not too many items were looked at and the
+    /// watch doesn't end it.
     fn set_classes<W: ReasonWatch>(
         &mut self,
         alloc: Global,

@@ -19,8 +19,9 @@ fn take(taken: &mut Bits, options: &[u16]) {
     }
 }
 
-/// Makes the demand what primary items need of a class, at least: as many as each of their options names. Of items that an option has in common only
-/// the first needs any. Returns about how many items of options were looked at. The only error is out of memory.
+/// Makes the demand what primary items need of a class, at least: as many as each of their options names. Of items that
+/// an option has in common only the first needs any. Returns about how many items of options were looked at. The only
+/// error is out of memory.
 pub(crate) fn need_class(
     alloc: Global,
     problem: &Problem,

@@ -34,9 +34,9 @@ fn is_filled(problem: &Problem, room: &Room) -> bool
     all_fit(problem, room)
 }
 
-/// Whether this room is just enough for an exact cover of the problem: primary items alone need it, each option needs no more than it has
-/// room for, that of items to which no option gives a colour, and all items together need as much as there is room for. Then each exact
-/// cover names each item that has room once.
+/// Whether this room is just enough for an exact cover of the problem: primary items alone need it, each option needs
+/// no more than it has room for, that of items to which no option gives a colour, and all items together need as much
+/// as there is room for. Then each exact cover names each item that has room once.
 ///
 /// It takes no memory, and time of the order of the options' items.
 pub fn is_just_enough(problem: &Problem, room: &Room) -> bool

@@ -24,8 +24,9 @@ fn has_reason<W: ReasonWatch>(
     }
 }
 
-/// Whether a reason is found why the problem with those items made primary that each exact cover uses has no exact cover. Then a search of
-/// the problem itself finds none. Once the watch ends it none is found. The only error is out of memory.
+/// Whether a reason is found why the problem with those items made primary that each exact cover uses has no exact
+/// cover. Then a search of the problem itself finds none. Once the watch ends it none is found. The only error is out
+/// of memory.
 pub fn is_excluded_by_used_items<W: ReasonWatch>(
     alloc: Global,
     problem: &Problem,

@@ -17,8 +17,8 @@ pub fn items_with_just_enough_room_are_used()
         IsAlwaysUsed problem item }
 {}
 
-/// Where the items that come to the primary ones have room that is just enough, the problem in the new order keeps the rules of problems,
-/// and has the same exact covers.
+/// Where the items that come to the primary ones have room that is just enough, the problem in the new order keeps the
+/// rules of problems, and has the same exact covers.
 pub fn promotion_keeps_covers()
     ensures problem { (problem : ProblemValue) (room : RoomValue) (order : OrderValue) →
         IsProblem problem → promotes problem room order ≡ true →

@@ -1,5 +1,5 @@
-//! Secondary items that each exact cover uses: where primary items need all the room that they have, as the lessons of a class that has no
-//! free period need each period. A problem with such items made primary has the same exact covers.
+//! Secondary items that each exact cover uses: where primary items need all the room that they have, as the lessons of
+//! a class that has no free period need each period. A problem with such items made primary has the same exact covers.
 #![tactic(auto)]
 
 mod classes;

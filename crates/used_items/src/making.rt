@@ -11,8 +11,8 @@ use cover_reasons::{Endless, ReasonWatch, Room};
 use fractional_room::Row;
 use std::alloc::{AllocError, Global};
 
-/// A problem with more primary items than another one, and the room that says why: it is just enough, so each exact cover uses the items
-/// that have some.
+/// A problem with more primary items than another one, and the room that says why: it is just enough, so each exact
+/// cover uses the items that have some.
 #[derive(Debug, Drop)]
 pub struct WithUsedItems {
     /// The problem, with the same options in the same order and the same exact covers. Its items are in another order.
@@ -49,7 +49,8 @@ fn add_items(
     Ok(())
 }
 
-/// The items in the order of the problem, but those that have room right behind the primary ones. The only error is out of memory.
+/// The items in the order of the problem, but those that have room right behind the primary ones. The only error is out
+/// of memory.
 fn order_by(alloc: Global, problem: &Problem, room: &Room) -> Result<Order, AllocError> {
     let mut items = Vec::with_capacity(alloc, problem.items())?;
     let mut places = Row::zeros(alloc, problem.items())?;
@@ -74,12 +75,13 @@ pub fn with_room(
     Ok(Some(promoted(alloc, problem, room, &order)?))
 }
 
-/// The problem with those secondary items made primary that each exact cover uses, as far as such are found. It has the same exact covers,
-/// but another first one in the order of the search.
+/// The problem with those secondary items made primary that each exact cover uses, as far as such are found. It has the
+/// same exact covers, but another first one in the order of the search.
 ///
-/// They are found by matchings of primary items with secondary ones: where lessons need each period of a class, no cover leaves one out.
-/// Where none are found there may be such items. It takes memory of the order of the problem, and a bit for each primary item and each item beside it;
-/// and a tenth of a second or so at most. The only error is out of memory.
+/// They are found by matchings of primary items with secondary ones: where lessons need each period of a class, no
+/// cover leaves one out. Where none are found there may be such items. It takes memory of the order of the problem, and
+/// a bit for each primary item and each item beside it; and a tenth of a second or so at most. The only error is out of
+/// memory.
 pub fn with_used_items(
     alloc: Global,
     problem: &Problem,

@@ -6,7 +6,8 @@ ghost use Rattle.used_items.specs.Orders.{item_at, place_of, stands, is_taken, i
 
 use std::marker::Model;
 
-/// The items of a problem in an order, the place of each item in it, and how many of them are primary. Items and places are counted from 0.
+/// The items of a problem in an order, the place of each item in it, and how many of them are primary. Items and places
+/// are counted from 0.
 #[derive(Debug, Drop)]
 pub struct Order {
     items: Vec<u16>,

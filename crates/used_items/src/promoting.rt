@@ -46,7 +46,8 @@ fn are_sorted(problem: &Problem, room: &Room, order: &Order) -> bool
     (0..problem.items() as u16).all(|item| is_sorted(problem, room, order, item))
 }
 
-/// Whether the room is just enough, and the order is one of the problem's items, first those that are primary or have room.
+/// Whether the room is just enough, and the order is one of the problem's items, first those that are primary or have
+/// room.
 pub fn promotes(problem: &Problem, room: &Room, order: &Order) -> bool
     ensures { result ≡ promotes problem.now room.now order.now }
 {
@@ -115,8 +116,8 @@ fn options_in_order(
     Ok(options)
 }
 
-/// The problem in an order that makes those items primary that have room, which is just enough. It has the same exact covers. The only
-/// error is out of memory.
+/// The problem in an order that makes those items primary that have room, which is just enough. It has the same exact
+/// covers. The only error is out of memory.
 pub fn promoted(
     alloc: Global,
     problem: &Problem,

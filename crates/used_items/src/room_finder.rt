@@ -91,11 +91,12 @@ impl Finder {
     }
 }
 
-/// Room that may be just enough for an exact cover: that of secondary items of one class, no two of which an option names, or of all
-/// classes, for primary items that name them in each of their options; several such rooms are added up.
+/// Room that may be just enough for an exact cover: that of secondary items of one class, no two of which an option
+/// names, or of all classes, for primary items that name them in each of their options; several such rooms are added
+/// up.
 ///
-/// It looks at some 20,000,000 items of options at most, until the watch ends that, and takes memory of the order of the problem, and a bit for each
-/// primary item and each item beside it. The only error is out of memory.
+/// It looks at some 20,000,000 items of options at most, until the watch ends that, and takes memory of the order of
+/// the problem, and a bit for each primary item and each item beside it. The only error is out of memory.
 pub(crate) fn find_full_room<W: ReasonWatch>(
     alloc: Global,
     problem: &Problem,

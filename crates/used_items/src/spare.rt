@@ -1,8 +1,8 @@
 //! Which items each matching of what primary items need with what they may have uses.
 //!
-//! An item that one largest matching leaves free is reached from a free one by an alternating path (Berge). The items that no such path
-//! reaches are used by every matching (the decomposition of Dulmage and Mendelsohn). Nothing of it is believed: it comes to needs and rooms,
-//! which are added up.
+//! An item that one largest matching leaves free is reached from a free one by an alternating path (Berge). The items
+//! that no such path reaches are used by every matching (the decomposition of Dulmage and Mendelsohn). Nothing of it is
+//! believed: it comes to needs and rooms, which are added up.
 
 ghost use Rattle.std.specs.Prelude.{◌≡◌};
 
@@ -11,7 +11,8 @@ use cover_reasons::{Bits, Demand, Matching, Room};
 use fractional_room::Row;
 use std::alloc::{AllocError, Global};
 
-/// The items that a matching could leave out, if primary items took other ones than they have, and the primary items that could have one of these.
+/// The items that a matching could leave out, if primary items took other ones than they have, and the primary items
+/// that could have one of these.
 #[derive(Drop)]
 pub(crate) struct Spare {
     items: Bits,

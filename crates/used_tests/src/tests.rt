@@ -45,7 +45,8 @@ fn made_of<R: Abort>(rt: &R, alloc: Global, text: &str) -> Result<Vec<u8>, Alloc
     }
 }
 
-/// Small problems, and the items once those are primary that are found: each cover uses them, as was seen when all sets of options were tried.
+/// Small problems, and the items once those are primary that are found: each cover uses them, as was seen when all sets
+/// of options were tried.
 static SMALL: [(&str, &str); 11] = [
     // two lessons in two periods; the third has no option
     ("a b | x y z\na x\na y\nb x\nb y\n", "a b x y | z "),
@@ -89,7 +90,8 @@ fn small_problems(rt: HostRuntime) -> Result<(), Fail> {
     Ok(())
 }
 
-/// Rooms by hand, with a secondary item and one that options give colours: what each lesson needs, and for how much each item has room.
+/// Rooms by hand, with a secondary item and one that options give colours: what each lesson needs, and for how much
+/// each item has room.
 static ROOMS: [(&[u16], &[u16], bool); 9] = [
     (&[1, 1], &[0, 0, 1, 1], true),
     (&[2, 2], &[0, 0, 2, 2], true),
@@ -159,8 +161,9 @@ fn edges(alloc: Global, points: u8, colours: u8) -> Result<String, AllocError> {
     Ok(head)
 }
 
-/// The edges of a complete graph of an odd number of points can't be coloured by as many colours as each point has edges: each colour
-/// would leave no point out, and pairs don't make an odd number. A reason is found once the colours at points are primary.
+/// The edges of a complete graph of an odd number of points can't be coloured by as many colours as each point has
+/// edges: each colour would leave no point out, and pairs don't make an odd number. A reason is found once the colours
+/// at points are primary.
 #[test]
 fn edge_colourings(rt: HostRuntime) -> Result<(), Fail> {
     let alloc = rt.alloc();

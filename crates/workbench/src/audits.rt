@@ -1,16 +1,17 @@
 //! Audits of the books of real runs.
 //!
-//! `workbench audits FILE NODES WORKERS SEED FUEL TURNS WHAT` lets sites with threads search a file's problem over links in memory. What it
-//! does with their books is a word:
+//! `workbench audits FILE NODES WORKERS SEED FUEL TURNS WHAT` lets sites with threads search a file's problem over
+//! links in memory. What it does with their books is a word:
 //!
-//! - a number: it prints them, a line `book NODE INCARNATION` for each, a line `event ..` for each entry, and a line `out ..` for each
-//!   packet that an entry put out; then a line `found ..` with what an audit of them finds. Then it draws so many changes: a site
-//!   and one entry, the event of which doesn't happen, or happens twice, or after the next one, or delivers a packet with another
-//!   bit, or one of another entry. The site's events are played once more with the change, without those that the core refuses then.
-//!   Each change has a line `change KIND PLACE`, the book of the site from this place on, and what an audit finds with this book in
-//!   place of the site's. A change that can't be made at the entry is passed over. `trials/try_audit.py` reads all this.
-//! - `time`: it prints how many books there are, how many entries they have, how many nanoseconds an audit of them takes, and what it
-//!   finds. `nothing`: it does nothing with them. `bench/audits.py` reads both.
+//! - a number: it prints them, a line `book NODE INCARNATION` for each, a line `event ..` for each entry, and a line
+//!   `out ..` for each packet that an entry put out; then a line `found ..` with what an audit of them finds. Then it
+//!   draws so many changes: a site and one entry, the event of which doesn't happen, or happens twice, or after the
+//!   next one, or delivers a packet with another bit, or one of another entry. The site's events are played once more
+//!   with the change, without those that the core refuses then. Each change has a line `change KIND PLACE`, the book of
+//!   the site from this place on, and what an audit finds with this book in place of the site's. A change that can't be
+//!   made at the entry is passed over. `trials/try_audit.py` reads all this.
+//! - `time`: it prints how many books there are, how many entries they have, how many nanoseconds an audit of them
+//!   takes, and what it finds. `nothing`: it does nothing with them. `bench/audits.py` reads both.
 
 ghost use Rattle.std.specs.Prelude.{◌≤◌};
 ghost use Rattle.spawn_frame.specs.declared.site.TheConstants.{LAST_NODE};

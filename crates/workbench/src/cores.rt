@@ -1,14 +1,16 @@
 //! Cores, cells and ledgers, over and over, for benches.
 //!
-//! `workbench act KIND TIMES` lets cores take events, so many times over; `workbench copy KIND TIMES` only copies the packets
-//! that go with them. A KIND is `cycle`, a steal from the first packet to the last, `share-1`, `share-2` or `share-8`, a Steal with
-//! the Give of so many children, or the name of a packet that is delivered. `bench/cores.py` takes the times of both.
+//! `workbench act KIND TIMES` lets cores take events, so many times over; `workbench copy KIND TIMES` only copies the
+//! packets that go with them. A KIND is `cycle`, a steal from the first packet to the last, `share-1`, `share-2` or
+//! `share-8`, a Steal with the Give of so many children, or the name of a packet that is delivered. `bench/cores.py`
+//! takes the times of both.
 //!
-//! `workbench greet THREADS TIMES` lets so many threads greet at one cell, each so many times; with 0 threads a core without a lock.
-//! `bench/cells.py` takes their times.
+//! `workbench greet THREADS TIMES` lets so many threads greet at one cell, each so many times; with 0 threads a core
+//! without a lock. `bench/cells.py` takes their times.
 //!
-//! `workbench table UNITS` times the calls of a ledger with so many own children, `workbench guests UNITS` of one with so many
-//! guests: a line for each call, how often it was called, and the nanoseconds of all. `bench/table.py` reads them.
+//! `workbench table UNITS` times the calls of a ledger with so many own children, `workbench guests UNITS` of one with
+//! so many guests: a line for each call, how often it was called, and the nanoseconds of all. `bench/table.py` reads
+//! them.
 
 mod cells;
 mod cycle;
@@ -104,7 +106,8 @@ fn time_calls(rt: &HostRuntime, what: &str, units: &str) -> io::Result<Result<()
     }
 }
 
-/// Does what the words ask for, and returns the exit status; prints why it doesn't, and returns none, where they ask for something else.
+/// Does what the words ask for, and returns the exit status; prints why it doesn't, and returns none, where they ask
+/// for something else.
 pub fn command<R: Threads + Wait + Sync>(
     rt: &HostRuntime,
     threads: &R,

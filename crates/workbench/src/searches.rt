@@ -1,5 +1,6 @@
-//! `workbench search FILE links|sets|suited plain|kept FUEL` searches a file's problem by links, over sets of live options, or by that of
-//! the two which the program takes; it keeps the states that have no cover, or doesn't. `bench/searches.py` times it.
+//! `workbench search FILE links|sets|suited plain|kept FUEL` searches a file's problem by links, over sets of live
+//! options, or by that of the two which the program takes; it keeps the states that have no cover, or doesn't.
+//! `bench/searches.py` times it.
 
 use crate::words::text_of;
 use brancher::{Outcome, Searcher, TABLE_BYTES, Tables};

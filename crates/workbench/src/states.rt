@@ -1,9 +1,10 @@
 //! `workbench states SEED COUNT`: searches of random problems that keep states beside plain ones.
 //!
-//! It draws so many problems, with secondary items and colours among them. Of each it searches several random prefixes, with as much fuel as
-//! there are visits, with one less, and with fuel that is drawn, by links and over sets, with room for a few states or for many; what is
-//! kept of one search serves the next. Outcome and first cover have to be those of the plain search. It prints how many searches there
-//! were, how many visits, and how many searches differ. `trials/try_states.py` reads it.
+//! It draws so many problems, with secondary items and colours among them. Of each it searches several random prefixes,
+//! with as much fuel as there are visits, with one less, and with fuel that is drawn, by links and over sets, with room
+//! for a few states or for many; what is kept of one search serves the next. Outcome and first cover have to be those
+//! of the plain search. It prints how many searches there were, how many visits, and how many searches differ.
+//! `trials/try_states.py` reads it.
 
 mod compare;
 

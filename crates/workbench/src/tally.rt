@@ -1,5 +1,5 @@
-//! `workbench tally FILE NODES WORKERS SEED FUEL TURNS` lets sites with threads search a file's problem over links in memory, and prints how
-//! each ended and what its book holds. `bench/books.py` reads it.
+//! `workbench tally FILE NODES WORKERS SEED FUEL TURNS` lets sites with threads search a file's problem over links in
+//! memory, and prints how each ended and what its book holds. `bench/books.py` reads it.
 
 ghost use Rattle.std.specs.Prelude.{◌≤◌};
 ghost use Rattle.spawn_frame.specs.declared.site.TheConstants.{LAST_NODE};

@@ -1,7 +1,8 @@
 //! A simulated search, told event by event.
 //!
-//! `workbench tell FILE NODES SEED FUEL RESTARTS TURNS` prints a simulated search of a file's problem with all its packets;
-//! `workbench measure ..` plays the same and prints its turns, its packets, and whether an answer was published.
+//! `workbench tell FILE NODES SEED FUEL RESTARTS TURNS` prints a simulated search of a file's problem with all its
+//! packets; `workbench measure ..` plays the same and prints its turns, its packets, and whether an answer was
+//! published.
 
 ghost use Rattle.std.specs.Prelude.{◌≤◌, IfSome};
 ghost use Rattle.spawn_frame.specs.declared.site.TheConstants.{LAST_NODE};

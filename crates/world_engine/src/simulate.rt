@@ -39,7 +39,8 @@ fn copied(published: Option<&Answer>) -> Result<Option<Answer>, EngineFault>
     }
 }
 
-/// Lets a world that has just begun go on as the settings say, and returns what it publishes in the end. The only fault is `Memory`.
+/// Lets a world that has just begun go on as the settings say, and returns what it publishes in the end. The only fault
+/// is `Memory`.
 fn played_out(world: &mut World, settings: &Settings) -> Result<Option<Answer>, EngineFault>
     requires { world.old ≡ opening_core world.old.problem settings.now.nodes }
     ensures simulated { IfOk result (IsSimulated world.old.problem settings.now) }
@@ -61,7 +62,8 @@ fn played_out(world: &mut World, settings: &Settings) -> Result<Option<Answer>, 
     }
 }
 
-/// Simulates a world that begins with the problem, as the settings say, and returns what it publishes. The only fault is `Memory`.
+/// Simulates a world that begins with the problem, as the settings say, and returns what it publishes. The only fault
+/// is `Memory`.
 fn simulated(
     alloc: Global,
     settings: &Settings,
@@ -72,7 +74,8 @@ fn simulated(
     ensures memory { IfErr result (λ fault. fault ≡ EngineFault.Memory) }
 {
     match World::start(alloc, problem, settings.nodes) {
-        // (the rest is a function over a reference: where a world is owned each ? drops it, and that takes the prover long)
+        // (the rest is a function over a reference: where a world is owned each ? drops it, and that takes the prover
+        // long)
         Ok(mut world) => played_out(&mut world, settings),
         Err(_) => Err(EngineFault::Memory),
     }
@@ -98,8 +101,8 @@ fn write_simulation<W: Sink>(
     Ok(Written { status, why })
 }
 
-/// Does what `simulate_engine` does. Where nothing is published the end says so, and where the text is refused since no item has a name, the
-/// failure has that.
+/// Does what `simulate_engine` does. Where nothing is published the end says so, and where the text is refused since no
+/// item has a name, the failure has that.
 pub fn simulate_source<R: Source, W: Sink>(
     alloc: Global,
     settings: &Settings,
@@ -120,13 +123,14 @@ pub fn simulate_source<R: Source, W: Sink>(
     ended_with(written, read.ignored)
 }
 
-/// Reads a problem to its end, lets a world of sites search it by chance, as the settings say, and writes the answer that it publishes,
-/// or `no answer` where it publishes none.
+/// Reads a problem to its end, lets a world of sites search it by chance, as the settings say, and writes the answer
+/// that it publishes, or `no answer` where it publishes none.
 ///
 /// # Errors
 ///
-/// `Read` and `Write` if that device failed, `File` with the text's first fault, and `Memory`. After `Write` a beginning of the
-/// answer's text was written, after another fault nothing. At `Memory` the source may have been read in part.
+/// `Read` and `Write` if that device failed, `File` with the text's first fault, and `Memory`. After `Write` a
+/// beginning of the answer's text was written, after another fault nothing. At `Memory` the source may have been read
+/// in part.
 pub fn simulate_engine<R: Source, W: Sink>(
     alloc: Global,
     settings: &Settings,

@@ -1,5 +1,5 @@
-//! Books of runs, and what an audit finds, also where memory is refused. These tests refuse none themselves: it has to be refused
-//! from outside, for which `trials/refuse_growth.c` is meant.
+//! Books of runs, and what an audit finds, also where memory is refused. These tests refuse none themselves: it has to
+//! be refused from outside, for which `trials/refuse_growth.c` is meant.
 
 ghost use Rattle.std.specs.Prelude.{◌≡◌, ◌≤◌, true};
 ghost use Rattle.run_book.specs.Books.{are_distinct};
@@ -52,7 +52,8 @@ enum Act {
     NoWork,
 }
 
-/// A run: what happens at the sites that have a book, the incarnations of node 1 in their order, and what an audit finds.
+/// A run: what happens at the sites that have a book, the incarnations of node 1 in their order, and what an audit
+/// finds.
 struct Row {
     root: Option<&'static [Act]>,
     incarnations: &'static [(u32, &'static [Act])],

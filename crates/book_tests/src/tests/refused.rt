@@ -1,6 +1,8 @@
-//! A cell at which memory is refused: seat and event come back, nothing is entered, and the event then comes to what the row says.
+//! A cell at which memory is refused: seat and event come back, nothing is entered, and the event then comes to what
+//! the row says.
 //!
-//! No memory is refused here: `trials/try_memory.py` does it from outside, and sees by marks where an event begins and ends.
+//! No memory is refused here: `trials/try_memory.py` does it from outside, and sees by marks where an event begins and
+//! ends.
 
 ghost use Rattle.std.specs.Prelude.{◌≡◌, ◌≤◌, IfSome};
 ghost use Rattle.node_core.specs.Results.{IsRight};

@@ -1,8 +1,9 @@
 //! Certificates that are written while a search goes on.
 //!
-//! Of the bugs of `certificate_writer` that are kept outside the gate, `what_a_search_writes_is_right` finds `cases_are_numbered_from_1` and
-//! `dropped_cases_are_met`, and `a_reason_is_a_certificate` finds `needs_are_not_counted`. Of the bugs of `decider` that are kept outside the gate,
-//! `what_a_search_writes_is_right` finds `another_item_is_heard`.
+//! Of the bugs of `certificate_writer` that are kept outside the gate, `what_a_search_writes_is_right` finds
+//! `cases_are_numbered_from_1` and `dropped_cases_are_met`, and `a_reason_is_a_certificate` finds
+//! `needs_are_not_counted`. Of the bugs of `decider` that are kept outside the gate, `what_a_search_writes_is_right`
+//! finds `another_item_is_heard`.
 
 use super::written::{Narrow, SEVEN};
 use super::{AGREED, COLOURS, IDLE, PAIRS, ROOM};
@@ -23,8 +24,8 @@ const NINE: &str =
 /// What came of a search: its decision, whether all lines were written, and what the test of the text comes to.
 type Searched = (Decision, bool, Checked);
 
-/// Searches a problem, and writes to the text what a writer takes that has so much room, by lines whose reader holds so many kept cases; none
-/// if memory is refused or the problem is.
+/// Searches a problem, and writes to the text what a writer takes that has so much room, by lines whose reader holds so
+/// many kept cases; none if memory is refused or the problem is.
 fn search(
     alloc: Global,
     problem: &str,
@@ -135,7 +136,8 @@ fn a_reason_is_a_certificate(rt: HostRuntime) {
     }
 }
 
-/// Returns the status of an answer that is written beside a certificate, its text, and whether the certificate is right.
+/// Returns the status of an answer that is written beside a certificate, its text, and whether the certificate is
+/// right.
 fn answered(rt: &HostRuntime, problem: &str, out: &mut Vec<u8>) -> Option<(u8, bool)> {
     let alloc = rt.alloc();
     let read = read_problem(alloc, problem.as_bytes()).ok()?;

@@ -1,6 +1,7 @@
 //! Certificates that are written while a learner learns.
 //!
-//! Of the bugs of `certificate_writer` that are kept outside the gate, `what_a_learner_writes_is_right` finds `places_are_written_as_numbers`.
+//! Of the bugs of `certificate_writer` that are kept outside the gate, `what_a_learner_writes_is_right` finds
+//! `places_are_written_as_numbers`.
 
 use super::{AGREED, COLOURS, IDLE, PAIRS, ROOM};
 use certificate_writer::{CertifyingWatch, ClauseWriter};
@@ -47,8 +48,8 @@ impl<'a> Write for Narrow<'a> {
     }
 }
 
-/// Learns from a problem, and writes to the text what a writer takes that has so much room. Returns what was found, whether all was written,
-/// and what the test of the text comes to; none if memory is refused or the problem is.
+/// Learns from a problem, and writes to the text what a writer takes that has so much room. Returns what was found,
+/// whether all was written, and what the test of the text comes to; none if memory is refused or the problem is.
 fn learn(
     alloc: Global,
     problem: &str,

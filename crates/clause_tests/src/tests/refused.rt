@@ -1,6 +1,7 @@
 //! Clauses where memory is refused: nothing is learned, and the same step then comes to what the script says.
 //!
-//! No memory is refused here: `trials/try_memory.py` does it from outside, and sees by marks where a step begins and ends.
+//! No memory is refused here: `trials/try_memory.py` does it from outside, and sees by marks where a step begins and
+//! ends.
 
 use super::steps::{SCRIPTS, Step, problem_of};
 use growth_marks::{begin, end};
@@ -29,7 +30,8 @@ fn first_clauses<'a, R: Abort>(
     }
 }
 
-/// Whether the clause is learned, in a call that is marked. Where memory is refused nothing changes, and it is tried again.
+/// Whether the clause is learned, in a call that is marked. Where memory is refused nothing changes, and it is tried
+/// again.
 fn is_learned<R: Abort>(
     rt: &R,
     alloc: Global,

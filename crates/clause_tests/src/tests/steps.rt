@@ -93,7 +93,8 @@ pub static SCRIPTS: [(&str, &[Step]); 5] = [
             Step::Refuted(false),
         ],
     ),
-    // hints of nothing: an option that clashes with itself, options that don't clash, that there aren't, places that there aren't
+    // hints of nothing: an option that clashes with itself, options that don't clash, that there aren't, places that
+    // there aren't
     (
         LETTERS,
         &[

@@ -479,8 +479,8 @@ fn reported<R: Abort>(rt: &R, alloc: Global, words: &[&str]) -> String {
     }
 }
 
-/// Values that are refused, each with what is reported: the option and its range, and the usage of its own subcommand by the name that
-/// the program was called by.
+/// Values that are refused, each with what is reported: the option and its range, and the usage of its own subcommand
+/// by the name that the program was called by.
 static VALUES: [(&[&str], &str); 12] = [
     (
         &["solve_cli", "alone", "a", "--fuel", "x"],

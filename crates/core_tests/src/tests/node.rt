@@ -227,7 +227,8 @@ impl<'a> Played for Stage<'a> {
     }
 }
 
-/// Plays the script at a node with so many names, which searches this problem; the first row that isn't as it says ends it.
+/// Plays the script at a node with so many names, which searches this problem; the first row that isn't as it says ends
+/// it.
 fn play<R: Abort>(rt: &R, alloc: Global, text: &str, names_limit: u32, rows: &[Row]) {
     let read = read_problem(alloc, text.as_bytes()).expect(rt, "a problem");
     Stage::new(rt, alloc, &read.problem, names_limit).play(rt, rows);
@@ -342,8 +343,8 @@ pub static STOLEN: [Row; 18] = [
     (Again, Ignored, &[]),
 ];
 
-/// A thief restarts: its child is redone, and the result of its earlier incarnation is refused. Where the child is done, the answer is
-/// the result that it has.
+/// A thief restarts: its child is redone, and the result of its earlier incarnation is refused. Where the child is
+/// done, the answer is the result that it has.
 pub static RUNS_ANEW: [Row; 15] = [
     ROOT_GIVEN,
     (Take, Taken(&[]), &[]),

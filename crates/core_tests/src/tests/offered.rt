@@ -1,5 +1,5 @@
-//! Packets that are offered to all sites at each moment of runs of two nodes. What comes of them was worked out by a model of the protocol
-//! in `trials/try_packets.py`, which shares no code with the crates.
+//! Packets that are offered to all sites at each moment of runs of two nodes. What comes of them was worked out by a
+//! model of the protocol in `trials/try_packets.py`, which shares no code with the crates.
 
 ghost use Rattle.std.specs.Prelude.{◌≡◌};
 
@@ -146,9 +146,9 @@ static OFFERED: [(Site, Site, Said); 24] = [
     (REGISTRY, ONE, Said::Give(0, 1, &[])),
 ];
 
-/// What comes of the packets at a site from this moment on, a character for each: how many packets are put out where something moved, `-`
-/// where it is ignored, and for a refusal the first letter of `Over`, or s for `OtherSite`, n for `NamesSpent`, c for `BadCover` and p for
-/// `BadPrefix`.
+/// What comes of the packets at a site from this moment on, a character for each: how many packets are put out where
+/// something moved, `-` where it is ignored, and for a refusal the first letter of `Over`, or s for `OtherSite`, n for
+/// `NamesSpent`, c for `BadCover` and p for `BadPrefix`.
 type Row = (usize, &'static str);
 
 /// A problem, what happens, and what comes of the packets at the registry and at both nodes.

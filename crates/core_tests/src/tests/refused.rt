@@ -1,8 +1,8 @@
-//! Where memory is refused in an event, the core and the lists are as they were, and the event comes to the same when it is
-//! given again. Every row of the scripts of node and registry is played so, with one list and with two.
+//! Where memory is refused in an event, the core and the lists are as they were, and the event comes to the same when
+//! it is given again. Every row of the scripts of node and registry is played so, with one list and with two.
 //!
-//! Beside the core that is tried stands a twin, which is a row behind it. These tests refuse no memory themselves: it has
-//! to be refused from outside, for which `trials/refuse_growth.c` is meant.
+//! Beside the core that is tried stands a twin, which is a row behind it. These tests refuse no memory themselves: it
+//! has to be refused from outside, for which `trials/refuse_growth.c` is meant.
 
 use super::lists::Lists;
 use super::said::{Comes, FOUR_WAYS, LETTERS, Said, has_come};

@@ -189,8 +189,8 @@ fn play<R: Abort>(rt: &R, alloc: Global, rows: &[Row], publishes: Publishes) {
     Stage::new(rt, alloc, &read.problem).play(rt, rows, publishes);
 }
 
-/// A cover that doesn't count right enters nothing; one that does is accepted, all nodes are told that it is over, and it
-/// is published, its options in the order of the file, whatever comes later.
+/// A cover that doesn't count right enters nothing; one that does is accepted, all nodes are told that it is over, and
+/// it is published, its options in the order of the file, whatever comes later.
 pub static COVERED: [Row; 17] = [
     (Again, Ignored, &[]),
     (

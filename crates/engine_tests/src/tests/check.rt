@@ -1,6 +1,7 @@
 //! `check` over texts in memory; the expected values were worked out by hand.
 //!
-//! Of the bugs of `search_engines` that are kept outside the gate, `a_check_of_none_keeps_states` finds `check_keeps_no_states`.
+//! Of the bugs of `search_engines` that are kept outside the gate, `a_check_of_none_keeps_states` finds
+//! `check_keeps_no_states`.
 
 ghost use Rattle.std.specs.Prelude.{◌≤◌};
 

@@ -110,7 +110,8 @@ impl Write for ByteByByte {
 /// The answer to the problem of the letters.
 static COVER: &[u8] = b"cover 3\nc e\na d f\nb g\n";
 
-/// Whether all before this call of the writer is written, and the fault is returned, or status 0 where the answer has no more bytes.
+/// Whether all before this call of the writer is written, and the fault is returned, or status 0 where the answer has
+/// no more bytes.
 fn writes_until(alloc: Global, call: usize) -> bool {
     let mut writer = ByteByByte {
         taken: Vec::new(alloc),
@@ -144,7 +145,8 @@ fn want_of_memory(rt: HostRuntime) {
     assert!(rt; fault_output(rt.alloc(), &EngineFault::Memory).is("", "out of memory\n", 5));
 }
 
-/// Whether the fault is that of an answer that can't be read, where the file would be refused too, and nothing is written.
+/// Whether the fault is that of an answer that can't be read, where the file would be refused too, and nothing is
+/// written.
 fn is_unreadable(alloc: Global) -> bool {
     let mut out = Vec::new(alloc);
     let mut file = CountedReader::new(b"a a\n".as_slice());

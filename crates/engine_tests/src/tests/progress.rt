@@ -1,9 +1,10 @@
 //! How far a search has come: the share of the tree, the lines, and that they change no answer.
 //!
-//! Of the bugs of `search_engines` that are kept outside the gate, `what_comes_before_a_prefix_is_not_behind_its_search` finds
-//! `done_part_counts_from_the_root`, `listed_lines_become_rarer` finds `a_line_each_second_all_night`,
-//! `a_forecast_is_of_the_rest` finds `a_forecast_of_what_is_done`, and `visits_that_are_skipped_are_not_shown` finds
-//! `skipped_visits_are_shown` and `a_limit_of_time_hears_of_no_visits`.
+//! Of the bugs of `search_engines` that are kept outside the gate,
+//! `what_comes_before_a_prefix_is_not_behind_its_search` finds `done_part_counts_from_the_root`,
+//! `listed_lines_become_rarer` finds `a_line_each_second_all_night`, `a_forecast_is_of_the_rest` finds
+//! `a_forecast_of_what_is_done`, and `visits_that_are_skipped_are_not_shown` finds `skipped_visits_are_shown` and
+//! `a_limit_of_time_hears_of_no_visits`.
 
 use super::boards::board;
 use dlx_reader::{CountedReader, CountedWriter, read_problem};
@@ -119,12 +120,14 @@ fn a_line_has_time_visits_and_share(rt: HostRuntime) -> Result<(), Fail> {
     Ok(())
 }
 
-/// Seven pigeons and six holes, which is no cover, in 1,957 visits; but few of these states differ, so a search that keeps them ends at once.
+/// Seven pigeons and six holes, which is no cover, in 1,957 visits; but few of these states differ, so a search that
+/// keeps them ends at once.
 const PIGEONS: &str = "1 2 3 4 5 6 7 | a b c d e f\n\
     1 a\n1 b\n1 c\n1 d\n1 e\n1 f\n2 a\n2 b\n2 c\n2 d\n2 e\n2 f\n3 a\n3 b\n3 c\n3 d\n3 e\n3 f\n4 a\n4 b\n4 c\n4 d\n4 e\n4 f\n\
     5 a\n5 b\n5 c\n5 d\n5 e\n5 f\n6 a\n6 b\n6 c\n6 d\n6 e\n6 f\n7 a\n7 b\n7 c\n7 d\n7 e\n7 f\n";
 
-/// Ten queens on a torus, no two of which are in one row, column or diagonal: there is no cover, and no state is met twice in 2,331 visits.
+/// Ten queens on a torus, no two of which are in one row, column or diagonal: there is no cover, and no state is met
+/// twice in 2,331 visits.
 pub const QUEENS: &str =
     "r0 r1 r2 r3 r4 r5 r6 r7 r8 r9 c0 c1 c2 c3 c4 c5 c6 c7 c8 c9 | a0 a1 a2 a3 a4 a5 a6 a7 a8 a9 b0 b1 b2 b3 b4 b5 b6 b7 b8 b9\nr0 c0 a0 b0\nr0 c1 a1 b9\nr0 c2 a2 b8\nr0 c3 a3 b7\nr0 c4 a4 b6\nr0 c5 a5 b5\nr0 c6 a6 b4\nr0 c7 a7 b3\nr0 c8 a8 b2\nr0 c9 a9 b1\nr1 c0 a1 b1\nr1 c1 a2 b0\nr1 c2 a3 b9\nr1 c3 a4 b8\nr1 c4 a5 b7\nr1 c5 a6 b6\nr1 c6 a7 b5\nr1 c7 a8 b4\nr1 c8 a9 b3\nr1 c9 a0 b2\nr2 c0 a2 b2\nr2 c1 a3 b1\nr2 c2 a4 b0\nr2 c3 a5 b9\nr2 c4 a6 b8\nr2 c5 a7 b7\nr2 c6 a8 b6\nr2 c7 a9 b5\nr2 c8 a0 b4\nr2 c9 a1 b3\nr3 c0 a3 b3\nr3 c1 a4 b2\nr3 c2 a5 b1\nr3 c3 a6 b0\nr3 c4 a7 b9\nr3 c5 a8 b8\nr3 c6 a9 b7\nr3 c7 a0 b6\nr3 c8 a1 b5\nr3 c9 a2 b4\nr4 c0 a4 b4\nr4 c1 a5 b3\nr4 c2 a6 b2\nr4 c3 a7 b1\nr4 c4 a8 b0\nr4 c5 a9 b9\nr4 c6 a0 b8\nr4 c7 a1 b7\nr4 c8 a2 b6\nr4 c9 a3 b5\nr5 c0 a5 b5\nr5 c1 a6 b4\nr5 c2 a7 b3\nr5 c3 a8 b2\nr5 c4 a9 b1\nr5 c5 a0 b0\nr5 c6 a1 b9\nr5 c7 a2 b8\nr5 c8 a3 b7\nr5 c9 a4 b6\nr6 c0 a6 b6\nr6 c1 a7 b5\nr6 c2 a8 b4\nr6 c3 a9 b3\nr6 c4 a0 b2\nr6 c5 a1 b1\nr6 c6 a2 b0\nr6 c7 a3 b9\nr6 c8 a4 b8\nr6 c9 a5 b7\nr7 c0 a7 b7\nr7 c1 a8 b6\nr7 c2 a9 b5\nr7 c3 a0 b4\nr7 c4 a1 b3\nr7 c5 a2 b2\nr7 c6 a3 b1\nr7 c7 a4 b0\nr7 c8 a5 b9\nr7 c9 a6 b8\nr8 c0 a8 b8\nr8 c1 a9 b7\nr8 c2 a0 b6\nr8 c3 a1 b5\nr8 c4 a2 b4\nr8 c5 a3 b3\nr8 c6 a4 b2\nr8 c7 a5 b1\nr8 c8 a6 b0\nr8 c9 a7 b9\nr9 c0 a9 b9\nr9 c1 a0 b8\nr9 c2 a1 b7\nr9 c3 a2 b6\nr9 c4 a3 b5\nr9 c5 a4 b4\nr9 c6 a5 b3\nr9 c7 a6 b2\nr9 c8 a7 b1\nr9 c9 a8 b0\n";
 
@@ -222,7 +225,8 @@ fn last_visits(log_text: &[u8]) -> Option<u64> {
     visits.parse().ok()
 }
 
-/// A search of 10^15 visits that goes past the states that it meets again makes some 80,000, and says so; also where a limit of time watches it.
+/// A search of 10^15 visits that goes past the states that it meets again makes some 80,000, and says so; also where a
+/// limit of time watches it.
 #[test]
 fn visits_that_are_skipped_are_not_shown(rt: HostRuntime) -> Result<(), Fail> {
     let text = board(&rt, rt.alloc(), 12, 12);

@@ -1,7 +1,8 @@
-//! Engines where memory is refused: the fault is `Memory`, nothing is written, and with a new source and sink the engine writes what
-//! the row says.
+//! Engines where memory is refused: the fault is `Memory`, nothing is written, and with a new source and sink the
+//! engine writes what the row says.
 //!
-//! No memory is refused here: `trials/try_memory.py` does it from outside, and marks show it where an engine begins and ends.
+//! No memory is refused here: `trials/try_memory.py` does it from outside, and marks show it where an engine begins and
+//! ends.
 
 ghost use Rattle.std.specs.Prelude.{◌≤◌};
 
@@ -54,7 +55,8 @@ fn output_of(alloc: Global, out: Vec<u8>, ended: &Result<AloneEnd, EngineFault>)
     }
 }
 
-/// Runs `alone` on a problem between marks and returns what is written; where memory is refused, once more and without marks.
+/// Runs `alone` on a problem between marks and returns what is written; where memory is refused, once more and without
+/// marks.
 fn alone_output<R: Abort>(rt: &R, alloc: Global, text: &str, fuel: u64) -> RunOutput
     requires { 1 ≤ fuel }
 {
@@ -84,7 +86,8 @@ fn refused_memory_where_alone_refuses(rt: HostRuntime) {
     }
 }
 
-/// Runs `check` on an answer between marks and returns what is written; where memory is refused, once more and without marks.
+/// Runs `check` on an answer between marks and returns what is written; where memory is refused, once more and without
+/// marks.
 fn check_output<R: Abort>(rt: &R, alloc: Global, texts: (&str, &str), fuel: u64) -> RunOutput
     requires { 1 ≤ fuel }
 {
@@ -117,7 +120,8 @@ fn refused_memory_where_check_refuses(rt: HostRuntime) {
     }
 }
 
-/// Runs `alone` within limits between marks and returns what is written; where memory is refused, once more and without marks.
+/// Runs `alone` within limits between marks and returns what is written; where memory is refused, once more and without
+/// marks.
 fn alone_within_output<R: Abort + Clock>(
     rt: &R,
     alloc: Global,
@@ -151,7 +155,8 @@ fn refused_memory_in_alone_within_limits(rt: HostRuntime) {
     }
 }
 
-/// Runs `check` within limits between marks and returns what is written; where memory is refused, once more and without marks.
+/// Runs `check` within limits between marks and returns what is written; where memory is refused, once more and without
+/// marks.
 fn check_within_output<R: Abort + Clock>(
     rt: &R,
     alloc: Global,

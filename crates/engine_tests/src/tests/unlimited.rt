@@ -1,7 +1,7 @@
 //! `alone` and `check` without a limit, over texts in memory; the expected values were worked out by hand.
 //!
-//! Of the bugs of `search_engines` that are kept outside the gate, `a_reason_decides_without_a_search` finds `no_reason_before_a_long_search`, and
-//! `a_walk_decides_without_a_search` finds `no_walk_beside_the_search`.
+//! Of the bugs of `search_engines` that are kept outside the gate, `a_reason_decides_without_a_search` finds
+//! `no_reason_before_a_long_search`, and `a_walk_decides_without_a_search` finds `no_walk_beside_the_search`.
 
 use super::long::names;
 use super::run_output::{NAMES, RunOutput};
@@ -122,8 +122,8 @@ fn a_reason_decides_without_a_search(rt: HostRuntime) {
 /// How many choices come between the first one and what it spoils.
 const CHOICES: u8 = 25;
 
-/// Six items to be paired, of which the first option of `a` takes one. So does none of its covers begin, but a search makes all choices in
-/// between before it sees that, and none of them leaves the same.
+/// Six items to be paired, of which the first option of `a` takes one. So does none of its covers begin, but a search
+/// makes all choices in between before it sees that, and none of them leaves the same.
 fn spoiled<R: Abort>(rt: &R, alloc: Global) -> String {
     let mut text = String::new(alloc);
     write!(text, "a p q r s t z").expect(rt, "memory");
@@ -148,7 +148,8 @@ fn spoiled<R: Abort>(rt: &R, alloc: Global) -> String {
     text
 }
 
-/// Its first cover: the first option of `a` that leaves six items, the first colour of each choice, and the first pairs that leave one.
+/// Its first cover: the first option of `a` that leaves six items, the first colour of each choice, and the first pairs
+/// that leave one.
 fn unspoiled<R: Abort>(rt: &R, alloc: Global) -> String {
     let mut text = String::new(alloc);
     let count = u16::from(CHOICES) + 4;

@@ -1,6 +1,7 @@
 //! `alone` and `check` within a limit of time, and what is written where there is no answer or a file can't be read.
 //!
-//! Of the bugs of `search_engines` that are kept outside the gate, `a_search_ends_once_its_time_is_over` finds `time_without_a_limit_never_ends`.
+//! Of the bugs of `search_engines` that are kept outside the gate, `a_search_ends_once_its_time_is_over` finds
+//! `time_without_a_limit_never_ends`.
 
 use super::progress::{QUEENS, Ticking};
 use super::run_output::{NAMES, RunOutput};
@@ -120,9 +121,9 @@ fn ticking() -> Ticking {
     }
 }
 
-/// A fuel, or 0 for none, and seconds, with what a search of 2,331 visits writes that may last so long, what a check of `none`, and the status of
-/// the first. The clock is read when it begins and once in some 1,024 visits, more often where states are looked for, and at each option where a
-/// reason is.
+/// A fuel, or 0 for none, and seconds, with what a search of 2,331 visits writes that may last so long, what a check of
+/// `none`, and the status of the first. The clock is read when it begins and once in some 1,024 visits, more often
+/// where states are looked for, and at each option where a reason is.
 static TIMES: [(u64, u64, &str, &str, u8); 5] = [
     (u64::MAX, 1, "no answer\n", "no answer\n", 4),
     (u64::MAX, 2, "no answer\n", "no answer\n", 4),
@@ -170,8 +171,9 @@ fn progress_goes_on_until_the_time_is_over(rt: HostRuntime) {
     assert!(rt; lines.as_slice() == b"1 s: 1024 visits,  43.6607 % of the tree\n".as_slice());
 }
 
-/// A fuel, or 0 for none, and seconds, with why a search of 2,331 visits ends that may last so long, and a check of `none`. The clock is a
-/// second later each time that it is read, so the time is over when the search ends, but for the long ones; what is said is what ended it.
+/// A fuel, or 0 for none, and seconds, with why a search of 2,331 visits ends that may last so long, and a check of
+/// `none`. The clock is a second later each time that it is read, so the time is over when the search ends, but for the
+/// long ones; what is said is what ended it.
 static CAUSES: [(u64, u64, Option<Unanswered>); 8] = [
     (1900, 999_999, Some(Unanswered::Fuel)),
     (1000, 0, Some(Unanswered::Fuel)),

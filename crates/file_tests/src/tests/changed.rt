@@ -1,5 +1,5 @@
-//! Texts with a byte changed, a byte more, or an end too soon. How many of them are read so, and how many refused, was counted by
-//! `trials/try_bytes.py`, which has readers of its own.
+//! Texts with a byte changed, a byte more, or an end too soon. How many of them are read so, and how many refused, was
+//! counted by `trials/try_bytes.py`, which has readers of its own.
 
 use super::texts::problem_of;
 use cover_problem::{Answer, Numbers, Problem};
@@ -7,13 +7,13 @@ use dlx_reader::{AnswerFault, Read, ReadFault, read_answer, read_problem};
 use std::alloc::Global;
 use std::process::Abort;
 
-/// What is counted of a problem's texts: at 0 those that are read, at 1 to 13 those with each fault, in the order of the format's page;
-/// at 14 the faults' lines added up, and from 15 on the items, the primary ones, the options, the nodes, the colours and the options
-/// ignored.
+/// What is counted of a problem's texts: at 0 those that are read, at 1 to 13 those with each fault, in the order of
+/// the format's page; at 14 the faults' lines added up, and from 15 on the items, the primary ones, the options, the
+/// nodes, the colours and the options ignored.
 type Counts = [usize; 21];
 
-/// What is counted of an answer's texts: at 0 the covers, at 1 those that say there is none, at 2 to 4 those with each fault; at 5 the
-/// faults' lines added up, and at 6 each option of a cover, counted from 1, by its place there.
+/// What is counted of an answer's texts: at 0 the covers, at 1 those that say there is none, at 2 to 4 those with each
+/// fault; at 5 the faults' lines added up, and at 6 each option of a cover, counted from 1, by its place there.
 type AnswerCounts = [usize; 7];
 
 static PROBLEMS: [(&str, Counts); 12] = [

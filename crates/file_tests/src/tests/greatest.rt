@@ -73,7 +73,8 @@ fn reads_all(alloc: Global, problem: &Problem, text: &[u8]) -> bool {
     }
 }
 
-/// Each write but the last takes what waited where the next name had no room: more than 4,096 bytes without a longest name.
+/// Each write but the last takes what waited where the next name had no room: more than 4,096 bytes without a longest
+/// name.
 #[test]
 fn a_cover_of_all_options_is_written_by_few_writes_and_read(rt: HostRuntime) {
     let text = greatest(&rt, rt.alloc());

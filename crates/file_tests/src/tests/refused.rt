@@ -1,6 +1,7 @@
 //! Texts that are read where memory is refused: the fault is `Memory`, and what is read then is what the row says.
 //!
-//! No memory is refused here: `trials/try_memory.py` does it from outside, and sees by marks where a text begins and ends.
+//! No memory is refused here: `trials/try_memory.py` does it from outside, and sees by marks where a text begins and
+//! ends.
 
 use super::answers::{ANSWERS, COLOURED_ANSWERS, COLOURED_FILE, FILE, is_answer};
 use super::reading::{COLOURED, FAULTS, PROBLEMS, is_coloured, is_read};

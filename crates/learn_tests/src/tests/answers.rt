@@ -1,6 +1,7 @@
 //! `answer` over texts in memory, each with one cover or none; the expected values were worked out by hand.
 //!
-//! Of the bugs of `answer_engine` that are kept outside the gate, `two_threads_find_a_reason` finds `no_reason_on_two_threads`.
+//! Of the bugs of `answer_engine` that are kept outside the gate, `two_threads_find_a_reason` finds
+//! `no_reason_on_two_threads`.
 
 use super::{LETTERS, NAMES, NO_COVER, RunOutput};
 use answer_engine::{Basis, Task, answer_engine};
@@ -77,7 +78,8 @@ fn answer_says_what_was_first(rt: HostRuntime) {
     assert!(rt; Basis::Run(2).line() == "answered by workers");
 }
 
-/// Each with what is written where what the answer rests on is to be, too: to how many states the search came was counted by hand.
+/// Each with what is written where what the answer rests on is to be, too: to how many states the search came was
+/// counted by hand.
 static REASONED: [(&str, &str, &str, u8); 5] = [
     (
         LETTERS,
@@ -146,7 +148,8 @@ fn pigeons(alloc: Global, pigeons: u8, holes: u8) -> Result<String, AllocError> 
     Ok(text)
 }
 
-/// Where two threads work, too, a reason is looked for beside them: of 40 pigeons in 39 holes the search has 2^39 states, and no learner knows more.
+/// Where two threads work, too, a reason is looked for beside them: of 40 pigeons in 39 holes the search has 2^39
+/// states, and no learner knows more.
 #[test]
 fn two_threads_find_a_reason(rt: HostRuntime) -> Result<(), Fail> {
     let (rt, alloc) = (&rt, rt.alloc());

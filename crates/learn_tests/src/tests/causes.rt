@@ -7,7 +7,8 @@ use reason_engine::{cause_lines, find_cause_until};
 use std::alloc::Global;
 use std::test::Fail;
 
-/// The edges of a triangle in two colours, each of which each corner needs, and each edge two of them; three corners can't have an edge each by twos.
+/// The edges of a triangle in two colours, each of which each corner needs, and each edge two of them; three corners
+/// can't have an edge each by twos.
 const TRIANGLE: &str =
     "ab ac bc | ra rb rc sa sb sc\nab ra rb\nab sa sb\nac ra rc\nac sa sc\nbc rb rc\nbc sb sc\n";
 

@@ -1,7 +1,7 @@
 //! Runs of one node in memory, and the links that they have.
 //!
-//! Of the bugs of `memory_run` that are kept outside the gate, `a_run_in_memory_answers` finds `no_answer_is_believed`, and
-//! `a_link_that_is_cut_fails` finds `a_cut_link_goes_on`.
+//! Of the bugs of `memory_run` that are kept outside the gate, `a_run_in_memory_answers` finds `no_answer_is_believed`,
+//! and `a_link_that_is_cut_fails` finds `a_cut_link_goes_on`.
 
 use super::{LETTERS, NO_COVER};
 use cover_problem::Answer;

@@ -22,8 +22,9 @@ impl LearnerWatch for Looks {
     }
 }
 
-/// Small problems and their first covers, in the order of the choices: the one of Knuth's paper "Dancing Links", the same without a cover,
-/// colours that leave one of two first choices, an item in no option, a secondary item that leaves one option, an option with both items.
+/// Small problems and their first covers, in the order of the choices: the one of Knuth's paper "Dancing Links", the
+/// same without a cover, colours that leave one of two first choices, an item in no option, a secondary item that
+/// leaves one option, an option with both items.
 static FIRST: [(&str, Option<&[u16]>); 6] = [
     (
         "a b c d e f g\nc e\na d g\nb c f\na d f\nb g\nd e g\n",
@@ -88,7 +89,8 @@ fn first_covers_of_small_problems(rt: HostRuntime) -> Result<(), Fail> {
     Ok(())
 }
 
-/// Whether a walk that is stopped at each look at first, and so goes on later from where it stood, comes to what a search comes to.
+/// Whether a walk that is stopped at each look at first, and so goes on later from where it stood, comes to what a
+/// search comes to.
 fn finds_in_pieces(alloc: Global, problem: &Problem) -> Result<bool, AllocError> {
     let mut walk = QuestionWalk::new(alloc, problem, Settings::new())?;
     end_of(&mut walk, 0)?;
@@ -118,8 +120,8 @@ fn walks_that_are_stopped_find_none(rt: HostRuntime) -> Result<(), Fail> {
 const LESSONS: &str =
     "art bio chess | m t w mr tr\nart m\nart t\nart w\nbio m mr\nbio t tr\nchess m mr\nchess t tr\n";
 
-/// Whether a walk that asks about the problem in which items are primary that each cover uses comes to what a search of the problem itself
-/// comes to; not where there are none.
+/// Whether a walk that asks about the problem in which items are primary that each cover uses comes to what a search of
+/// the problem itself comes to; not where there are none.
 fn finds_by_used_items(alloc: Global, problem: &Problem) -> Result<bool, AllocError> {
     let Some(made) = with_used_items(alloc, problem)? else {
         return Ok(false);

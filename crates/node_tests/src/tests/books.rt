@@ -1,9 +1,10 @@
-//! The books of a run: one of thousands of entries, that a follower hears of each entry, and that a run ends once they are too large.
+//! The books of a run: one of thousands of entries, that a follower hears of each entry, and that a run ends once they
+//! are too large.
 //!
-//! Of the bugs of `udp_node` that are kept outside the gate, `a_book_has_room_for_thousands` finds `a_book_of_2000_entries`,
-//! `the_registrys_book_has_room_for_thousands` finds `the_registrys_book_of_2000_entries`, and `a_follower_hears_of_each_entry` finds
-//! `nobody_hears_of_the_registry`, and `large_books_end_a_run` finds `bytes_are_never_counted`, `the_books_are_never_full`,
-//! `each_entry_has_one_byte` and `the_wrong_limit_is_named`.
+//! Of the bugs of `udp_node` that are kept outside the gate, `a_book_has_room_for_thousands` finds
+//! `a_book_of_2000_entries`, `the_registrys_book_has_room_for_thousands` finds `the_registrys_book_of_2000_entries`,
+//! and `a_follower_hears_of_each_entry` finds `nobody_hears_of_the_registry`, and `large_books_end_a_run` finds
+//! `bytes_are_never_counted`, `the_books_are_never_full`, `each_entry_has_one_byte` and `the_wrong_limit_is_named`.
 
 use super::crowded::crowded_registry;
 use super::ends::wires;
@@ -16,7 +17,8 @@ use std::sync::atomic::{AtomicU64, AtomicUsize, Ordering};
 use std::test::Fail;
 use udp_node::{EndCause, Follower, Gate, Open, Plan};
 
-/// The pairs of nine items, those with the first item twice: no five pairs cover nine items. A search visits 1,265 prefixes.
+/// The pairs of nine items, those with the first item twice: no five pairs cover nine items. A search visits 1,265
+/// prefixes.
 static PAIRS: Row = (
     "a b c d e f g h i\n\
     a b\na c\na d\na e\na f\na g\na h\na i\na b\na c\na d\na e\na f\na g\na h\na i\n\

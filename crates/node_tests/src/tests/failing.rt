@@ -1,9 +1,10 @@
 //! Runs over links of which one has a defect: they end soon, and report what went wrong, or go on where they can.
 //!
-//! Of the bugs of `udp_node` that are kept outside the gate, `a_receive_may_fail_once` finds `one_failed_receive_ends_a_site`,
-//! `a_send_may_fail_once` finds `a_failed_send_ends_the_sender`, `a_send_that_fails_is_a_loss` finds `a_failed_send_is_no_loss`,
-//! `nodes_that_do_not_hear_the_registry_end` finds `nodes_keep_one_another_at_work`, and `numbers_of_a_site_with_a_defect` finds
-//! `ends_after_99_failed_receives`, `failed_receives_are_not_counted` and `stops_after_ten_faults`.
+//! Of the bugs of `udp_node` that are kept outside the gate, `a_receive_may_fail_once` finds
+//! `one_failed_receive_ends_a_site`, `a_send_may_fail_once` finds `a_failed_send_ends_the_sender`,
+//! `a_send_that_fails_is_a_loss` finds `a_failed_send_is_no_loss`, `nodes_that_do_not_hear_the_registry_end` finds
+//! `nodes_keep_one_another_at_work`, and `numbers_of_a_site_with_a_defect` finds `ends_after_99_failed_receives`,
+//! `failed_receives_are_not_counted` and `stops_after_ten_faults`.
 
 use super::broken::{Defect, links_with};
 use super::fails_once::{AfterFault, Fault, links_that_fail};
@@ -121,8 +122,8 @@ fn a_send_that_fails_is_a_loss(rt: HostRuntime) -> Result<(), Fail> {
     Ok(())
 }
 
-/// Whether the node goes on where this call of its link fails, so that the answer comes: it counts as many failures as its link does,
-/// and at least these losses. (A full outbox may lose more.)
+/// Whether the node goes on where this call of its link fails, so that the answer comes: it counts as many failures as
+/// its link does, and at least these losses. (A full outbox may lose more.)
 fn goes_on<R: Threads + Wait + Clock + Sync>(
     rt: &R,
     alloc: Global,

@@ -1,6 +1,8 @@
-//! A node that hears the end of the search late: only after the registry, which has told it, has left and ended the run.
+//! A node that hears the end of the search late: only after the registry, which has told it, has left and ended the
+//! run.
 //!
-//! Of the bugs of `udp_node` that are kept outside the gate, `the_end_is_heard_late` finds `the_end_is_looked_at_after_a_receive`.
+//! Of the bugs of `udp_node` that are kept outside the gate, `the_end_is_heard_late` finds
+//! `the_end_is_looked_at_after_a_receive`.
 
 ghost use Rattle.std.specs.Prelude.{◌≡◌, ◌≤◌, ℕ, length, vec_len, IfOk, IfSome};
 

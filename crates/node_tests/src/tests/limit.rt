@@ -45,7 +45,8 @@ const PLAN: Plan = Plan {
 /// How long the run may last, in milliseconds.
 const LIMIT: u64 = 500;
 
-/// How long it may last on a machine that does other things, too, in milliseconds. Without the limit it lasts for years.
+/// How long it may last on a machine that does other things, too, in milliseconds. Without the limit it lasts for
+/// years.
 const LATEST: u64 = 20_000;
 
 /// Whether a run in which node 1 restarts so often published nothing, and how many sites have books.

@@ -1,10 +1,12 @@
-//! A node by itself: whose book is soon full, which may name too few children, which nobody answers, which waits for long, or whose outbox is full.
+//! A node by itself: whose book is soon full, which may name too few children, which nobody answers, which waits for
+//! long, or whose outbox is full.
 //!
-//! Of the bugs of `udp_node` that are kept outside the gate, `a_node_of_few_names` finds `searches_again_with_twice_the_fuel`,
-//! `a_lone_node_says_again` finds `nodes_never_say_again`, `a_node_of_a_small_book` finds `a_full_book_is_the_end_of_its_turns`, `an_idle_worker_stays` finds
+//! Of the bugs of `udp_node` that are kept outside the gate, `a_node_of_few_names` finds
+//! `searches_again_with_twice_the_fuel`, `a_lone_node_says_again` finds `nodes_never_say_again`,
+//! `a_node_of_a_small_book` finds `a_full_book_is_the_end_of_its_turns`, `an_idle_worker_stays` finds
 //! `idle_workers_leave_soon`, `each_packet_is_delivered` finds `aborts_and_refusals_are_dropped` and
-//! `packets_for_an_earlier_incarnation_are_taken`, and `a_full_outbox_loses_parcels` finds
-//! `a_full_outbox_is_no_loss`, and `jobs_grow` finds `jobs_never_grow`.
+//! `packets_for_an_earlier_incarnation_are_taken`, and `a_full_outbox_loses_parcels` finds `a_full_outbox_is_no_loss`,
+//! and `jobs_grow` finds `jobs_never_grow`.
 
 use super::lone::{HERE, OTHER, REGISTRY, Room, Script, run_alone, run_alone_on};
 use super::runs::Row;
@@ -74,7 +76,8 @@ fn a_lone_node_says_again(rt: HostRuntime) -> Result<(), Fail> {
     Ok(())
 }
 
-/// The pairs of thirteen items, those with the first item twice: no pairs cover thirteen items. A search visits some 125,000 prefixes.
+/// The pairs of thirteen items, those with the first item twice: no pairs cover thirteen items. A search visits some
+/// 125,000 prefixes.
 static PAIRS: Row = (
     "a b c d e f g h i j k l m\n\
     a b\na c\na d\na e\na f\na g\na h\na i\na j\na k\na l\na m\n\
@@ -94,8 +97,8 @@ static PAIRS: Row = (
     None,
 );
 
-/// The jobs below the root are small at first, of two visits, since nothing is known of how long they take; once that is known they grow. (With
-/// more fuel the first search would see that there is no cover.)
+/// The jobs below the root are small at first, of two visits, since nothing is known of how long they take; once that
+/// is known they grow. (With more fuel the first search would see that there is no cover.)
 #[test]
 fn jobs_grow(rt: HostRuntime) -> Result<(), Fail> {
     let script = root_after(rt.alloc(), 0)?;
@@ -131,7 +134,8 @@ fn a_node_of_a_small_book(rt: HostRuntime) -> Result<(), Fail> {
     Ok(())
 }
 
-/// The root comes when the worker has had nothing to do more often than it has turns: it looks some 32 times between two of its naps.
+/// The root comes when the worker has had nothing to do more often than it has turns: it looks some 32 times between
+/// two of its naps.
 #[test]
 fn an_idle_worker_stays(rt: HostRuntime) -> Result<(), Fail> {
     let script = root_after(rt.alloc(), 200)?;

@@ -116,8 +116,8 @@ fn the_registry_hears_a_node_and_gives_its_seat_back(rt: HostRuntime) -> Result<
     Ok(())
 }
 
-/// A node steals the root and returns that it has no cover: the search is over, and the registry announces it twenty times more, since the first
-/// announcement may be lost.
+/// A node steals the root and returns that it has no cover: the search is over, and the registry announces it twenty
+/// times more, since the first announcement may be lost.
 #[test]
 fn the_end_is_announced_again(rt: HostRuntime) -> Result<(), Fail> {
     let alloc = rt.alloc();

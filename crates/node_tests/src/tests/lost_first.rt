@@ -1,5 +1,5 @@
-//! Runs over links that lose the first packets of a kind and bring all others twice: what was lost is said again, and what came twice
-//! does no harm.
+//! Runs over links that lose the first packets of a kind and bring all others twice: what was lost is said again, and
+//! what came twice does no harm.
 
 ghost use Rattle.std.specs.Prelude.{◌≡◌, ◌+◌, ◌≤◌, ℕ, length, vec_len, IfOk, IfSome};
 

@@ -1,7 +1,7 @@
 //! A run in an order that a gate brings about.
 //!
-//! No contract says that threads work at once. Of the bugs of `udp_node` that are kept outside the gate, `gate_two_workers` finds
-//! `workers_in_turn`, `lock_from_take_to_post` and `lock_round_search_and_post`.
+//! No contract says that threads work at once. Of the bugs of `udp_node` that are kept outside the gate,
+//! `gate_two_workers` finds `workers_in_turn`, `lock_from_take_to_post` and `lock_round_search_and_post`.
 
 use super::ends::wires;
 use super::runs::{COVERED, Came, Told, run};

@@ -34,7 +34,8 @@ static AMONG_OTHERS: [Step; 30] = [
     // from a small job that is spent nothing is learnt
     Ends(4, Outcome::Spent, 200),
     Asks(4, false, 200),
-    // one of length 4 is thought to take eight times as much: 30,000, which isn't too much; and of length 6 8 visits more
+    // one of length 4 is thought to take eight times as much: 30,000, which isn't too much; and of length 6 8 visits
+    // more
     Ends(5, Outcome::Barren, 3_750),
     Asks(5, false, 240_000),
     Asks(4, false, 240_000),
@@ -113,8 +114,8 @@ fn is_answered(pace: &mut Pace, step: Step) -> bool {
     }
 }
 
-/// The number of the first step, if any, that is answered otherwise by a pace of this base, alone or not, for prefixes of up to
-/// 9 options.
+/// The number of the first step, if any, that is answered otherwise by a pace of this base, alone or not, for prefixes
+/// of up to 9 options.
 fn first_wrong(
     alloc: Global,
     (base, alone, steps): (u64, bool, &[Step]),

@@ -43,7 +43,8 @@ fn any_number_of_nodes_and_workers(rt: HostRuntime) -> Result<(), Fail> {
     Ok(())
 }
 
-/// Each packet leaves as soon as it is put out: one that waits until somebody looks for it comes later than sites wait for one another.
+/// Each packet leaves as soon as it is put out: one that waits until somebody looks for it comes later than sites wait
+/// for one another.
 #[test]
 fn packets_leave_at_once(rt: HostRuntime) -> Result<(), Fail> {
     let plan = Plan {

@@ -1,8 +1,9 @@
 //! Runs in which node 1 restarts.
 //!
 //! Of the bugs of `udp_node` that are kept outside the gate, `a_restart_frees_the_root` finds `no_node_is_restarted`,
-//! `any_number_of_restarts` finds `books_of_later_incarnations_are_lost`, and `an_incarnation_that_hears_nothing_ends_after_its_turns` finds
-//! `waits_before_a_restart_are_no_turns` and `no_incarnation_is_the_last`.
+//! `any_number_of_restarts` finds `books_of_later_incarnations_are_lost`, and
+//! `an_incarnation_that_hears_nothing_ends_after_its_turns` finds `waits_before_a_restart_are_no_turns` and
+//! `no_incarnation_is_the_last`.
 
 use super::broken::{Defect, links_with};
 use super::ends::wires;
@@ -94,8 +95,9 @@ fn greetings(sent: &[Packet], incarnation: u32) -> usize {
         .count()
 }
 
-/// A node greets at first, and each 300 milliseconds after that: so an incarnation of 250 turns, each of a millisecond, greets once, and the
-/// last one, which lasts a thousand times longer, more often, until it has heard nothing for 1,500 milliseconds.
+/// A node greets at first, and each 300 milliseconds after that: so an incarnation of 250 turns, each of a millisecond,
+/// greets once, and the last one, which lasts a thousand times longer, more often, until it has heard nothing for 1,500
+/// milliseconds.
 #[test]
 fn an_incarnation_that_hears_nothing_ends_after_its_turns(rt: HostRuntime) -> Result<(), Fail> {
     let alloc = rt.alloc();

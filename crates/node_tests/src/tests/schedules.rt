@@ -1,11 +1,12 @@
-//! When a site acts although nothing came, and what an idle worker does: scripts of what each is asked, with the answers expected.
+//! When a site acts although nothing came, and what an idle worker does: scripts of what each is asked, with the
+//! answers expected.
 //!
-//! Of the bugs of `udp_node` that are kept outside the gate, `schedules` finds `greets_at_each_look`, `each_run_ends_after_half_a_day` and
-//! `says_again_as_often`, `time_that_a_process_was_held_up` finds `all_time_counts`, `idle_turns` finds
-//! `naps_of_20_microseconds`, `savings` finds `single_searches_show_savings`, `a_spared_worker_is_roused` finds
-//! `spared_workers_are_not_roused`, `an_idle_worker_is_roused_at_the_end` finds `nobody_is_roused_at_the_end`, and `rooms` finds
-//! `each_worker_has_all_room`. Of the bugs of `site_limits` that are kept outside the gate, `a_run_ends_by_its_limit_or_by_a_site` finds
-//! `without_a_clock_there_is_no_limit`.
+//! Of the bugs of `udp_node` that are kept outside the gate, `schedules` finds `greets_at_each_look`,
+//! `each_run_ends_after_half_a_day` and `says_again_as_often`, `time_that_a_process_was_held_up` finds
+//! `all_time_counts`, `idle_turns` finds `naps_of_20_microseconds`, `savings` finds `single_searches_show_savings`,
+//! `a_spared_worker_is_roused` finds `spared_workers_are_not_roused`, `an_idle_worker_is_roused_at_the_end` finds
+//! `nobody_is_roused_at_the_end`, and `rooms` finds `each_worker_has_all_room`. Of the bugs of `site_limits` that are
+//! kept outside the gate, `a_run_ends_by_its_limit_or_by_a_site` finds `without_a_clock_there_is_no_limit`.
 
 use self::Step::{Announces, Ends, Greets, Hears, IsSilent, IsSpent, Repeats};
 use site_limits::Ending;
@@ -37,8 +38,8 @@ enum Step {
     IsSpent(u64, bool),
 }
 
-/// A node of the program: greetings each five seconds, silence after thirty, and of what may be lost after 160 milliseconds, 320 more, 640
-/// more and so on, up to 5,120.
+/// A node of the program: greetings each five seconds, silence after thirty, and of what may be lost after 160
+/// milliseconds, 320 more, 640 more and so on, up to 5,120.
 static USUAL: [Step; 37] = [
     Greets(0, true),
     Greets(0, false),
@@ -82,8 +83,8 @@ static USUAL: [Step; 37] = [
     Announces(false),
 ];
 
-/// A site that another incarnation follows: its million turns are of four milliseconds each. One that is to end goes on while packets come, for a
-/// second.
+/// A site that another incarnation follows: its million turns are of four milliseconds each. One that is to end goes on
+/// while packets come, for a second.
 static FOLLOWED: [Step; 6] = [
     IsSpent(3_999_999, false),
     IsSpent(4_000_000, true),
@@ -122,7 +123,8 @@ fn first_wrong(is_last: bool, steps: &[Step]) -> Option<usize> {
         .position(|step| !is_answered(&mut schedule, *step))
 }
 
-/// How often the end is announced after the search was over, by looks a hundredth of a millisecond apart; none where it goes on for ever.
+/// How often the end is announced after the search was over, by looks a hundredth of a millisecond apart; none where it
+/// goes on for ever.
 fn announcements() -> Option<u32> {
     let mut schedule = Schedule::new(Timing::USUAL, 1_000_000, true);
     schedule.end(7_000);
@@ -191,7 +193,8 @@ fn time_that_a_process_was_held_up(rt: HostRuntime) {
     }
 }
 
-/// A run's limit in milliseconds, if it has one, what a clock shows as the run begins and later, and why the run ends then, if it does.
+/// A run's limit in milliseconds, if it has one, what a clock shows as the run begins and later, and why the run ends
+/// then, if it does.
 static LIMITS: [(Option<u64>, u64, u64, Option<EndCause>); 6] = [
     (None, 0, 1_000_000, None),
     (None, u64::MAX, u64::MAX, None),
@@ -219,8 +222,8 @@ fn a_run_ends_by_its_limit_or_by_a_site(rt: HostRuntime) {
     }
 }
 
-/// How many idle turns in a row there were, how many workers the run has, and what comes next: 0 asks, else how many microseconds it
-/// waits.
+/// How many idle turns in a row there were, how many workers the run has, and what comes next: 0 asks, else how many
+/// microseconds it waits.
 static IDLE: [(u32, u64, u64); 14] = [
     (0, 8, 0),
     (32, 8, 20),
@@ -285,7 +288,8 @@ fn savings(rt: HostRuntime) {
     }
 }
 
-/// A worker that left all jobs to another doesn't wait for long once that one leaves them to all again: by itself it would for a minute.
+/// A worker that left all jobs to another doesn't wait for long once that one leaves them to all again: by itself it
+/// would for a minute.
 #[test]
 fn a_spared_worker_is_roused(rt: HostRuntime) -> Result<(), Fail> {
     let signals = Signals::new(2, true);

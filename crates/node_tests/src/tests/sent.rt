@@ -1,7 +1,8 @@
 //! What the sites of a run send one another, over links that keep it.
 //!
-//! Of the bugs of `udp_node` that are kept outside the gate, `a_node_greets_again` finds `a_node_greets_once`, `victims_are_drawn` finds
-//! `the_victim_is_node_1_at_most`, and `each_packet_of_an_event_is_sent` finds `the_first_packet_alone_is_sent`.
+//! Of the bugs of `udp_node` that are kept outside the gate, `a_node_greets_again` finds `a_node_greets_once`,
+//! `victims_are_drawn` finds `the_victim_is_node_1_at_most`, and `each_packet_of_an_event_is_sent` finds
+//! `the_first_packet_alone_is_sent`.
 
 ghost use Rattle.std.specs.Prelude.{◌≡◌, ◌+◌, ◌≤◌, vec_len};
 
@@ -56,8 +57,8 @@ fn a_node_greets_again(rt: HostRuntime) -> Result<(), Fail> {
     Ok(())
 }
 
-/// Seeds, and whom the first worker of each of four nodes asks first: the first word that PCG draws by the seed, with the stream 16
-/// times the node, modulo 5, and 0 in place of the node itself. (Drawn by a program of ours in Python.)
+/// Seeds, and whom the first worker of each of four nodes asks first: the first word that PCG draws by the seed, with
+/// the stream 16 times the node, modulo 5, and 0 in place of the node itself. (Drawn by a program of ours in Python.)
 static VICTIMS: [(u64, [u8; 4]); 3] = [(3, [4, 3, 1, 2]), (6, [2, 0, 1, 2]), (13, [4, 3, 2, 3])];
 
 /// Whether the nodes asked these first.

@@ -1,8 +1,8 @@
 //! A stranger's packets, which are well formed and name sites of the run, are not heard, however many there are.
 //!
 //! No contract says that a link asks for the key. Of the bugs of `site_network` that are kept outside the gate,
-//! `a_strangers_result_is_not_taken` finds `opens_nothing`, as `network_tests` does. Of the bugs of `udp_node` that are kept outside the gate,
-//! `a_flood_is_no_packet` finds `strangers_use_up_turns`.
+//! `a_strangers_result_is_not_taken` finds `opens_nothing`, as `network_tests` does. Of the bugs of `udp_node` that are
+//! kept outside the gate, `a_flood_is_no_packet` finds `strangers_use_up_turns`.
 
 use super::crowded::crowded_registry;
 use super::ends::{bound_sockets, links_over};
@@ -29,8 +29,8 @@ const PLAN: Plan = Plan {
     limit: None,
 };
 
-/// Sends the registry, from a socket that is none of the run's, what its first node would: that it asks for work, and that the root
-/// has no cover.
+/// Sends the registry, from a socket that is none of the run's, what its first node would: that it asks for work, and
+/// that the root has no cover.
 fn deceive<R: Net>(rt: &R, alloc: Global, registry: SocketAddr) -> Result<(), Fail> {
     let stranger = bound(rt)?;
     let from = Site {

@@ -1,8 +1,9 @@
 //! A node by itself that is told again what it has heard.
 //!
-//! Of the bugs of `udp_node` that are kept outside the gate, `what_was_entered_is_heard_once` finds `each_gift_is_heard_again`,
-//! `a_later_attempt_is_lost`, `siblings_of_an_entered_one_are_lost`, `all_that_is_said_again_is_lost`, `gifts_are_lost_after_1024` and
-//! `four_gifts_are_kept`, and `repeats_are_no_turns` finds `repeats_are_turns`.
+//! Of the bugs of `udp_node` that are kept outside the gate, `what_was_entered_is_heard_once` finds
+//! `each_gift_is_heard_again`, `a_later_attempt_is_lost`, `siblings_of_an_entered_one_are_lost`,
+//! `all_that_is_said_again_is_lost`, `gifts_are_lost_after_1024` and `four_gifts_are_kept`, and `repeats_are_no_turns`
+//! finds `repeats_are_turns`.
 
 use super::lone::{HERE, OTHER, REGISTRY, Room, Script, run_alone};
 use cover_problem::Numbers;
@@ -12,7 +13,8 @@ use std::alloc::{AllocError, Global};
 use std::test::Fail;
 use udp_node::{EndCause, Timing};
 
-/// More turns and entries than a short run takes, no end before the registry says so, and repeats so late that it says so first.
+/// More turns and entries than a short run takes, no end before the registry says so, and repeats so late that it says
+/// so first.
 const ROOM: Room = Room {
     turns: 100_000,
     entries: 1_000_000,
@@ -134,8 +136,8 @@ fn members(alloc: Global) -> Result<Script, AllocError> {
     Ok(script)
 }
 
-/// 1,100 children, and then four of them once more. The last 1,024 are kept, so the first child is heard again. It takes the place of the oldest, which
-/// is heard again, too; the last one and one of the next oldest are still there.
+/// 1,100 children, and then four of them once more. The last 1,024 are kept, so the first child is heard again. It
+/// takes the place of the oldest, which is heard again, too; the last one and one of the next oldest are still there.
 fn many_gifts(alloc: Global) -> Result<Script, AllocError> {
     let mut script = Script::new(alloc);
     let (from, to) = (OTHER, HERE);

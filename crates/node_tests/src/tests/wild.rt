@@ -19,8 +19,8 @@ struct Late {
     receives: u32,
 }
 
-/// A link which by chance loses what comes, repeats it, and lets later datagrams come before it. What its seed draws is the same
-/// in each run.
+/// A link which by chance loses what comes, repeats it, and lets later datagrams come before it. What its seed draws is
+/// the same in each run.
 #[derive(Drop)]
 pub struct Wild<L: Link> {
     inner: L,
@@ -64,7 +64,8 @@ impl<L: Link> Wild<L> {
         }
     }
 
-    /// Keeps a copy of a datagram for a later receive, in five of ten times, or for this one. It is lost where memory runs out.
+    /// Keeps a copy of a datagram for a later receive, in five of ten times, or for this one. It is lost where memory
+    /// runs out.
     fn hold(&mut self, bytes: &[u8])
         ensures { self.new.inner ≡ self.old.inner }
     {

@@ -1,7 +1,8 @@
 //! Searches without a limit that end soon only since they go past the states that they meet again.
 //!
-//! Of the bugs of `decider` that are kept outside the gate, `states_are_found_again_without_a_limit` finds `only_the_root_is_looked_up`. Of the bugs of
-//! `live_sets` that are kept outside the gate, `long_keys_are_found_again` finds `long_keys_are_not_written`.
+//! Of the bugs of `decider` that are kept outside the gate, `states_are_found_again_without_a_limit` finds
+//! `only_the_root_is_looked_up`. Of the bugs of `live_sets` that are kept outside the gate, `long_keys_are_found_again`
+//! finds `long_keys_are_not_written`.
 
 ghost use Rattle.std.specs.Prelude.{true};
 
@@ -49,7 +50,8 @@ fn states_are_found_again_without_a_limit(rt: HostRuntime) {
     }
 }
 
-/// The board of eight by eight with a secondary item and 250 options of one more item: a key is the live options then, in six words.
+/// The board of eight by eight with a secondary item and 250 options of one more item: a key is the live options then,
+/// in six words.
 fn with_long_keys<R: Abort>(rt: &R, alloc: Global) -> String {
     let (cells, dominoes) = BOARD_OF_8.split_once('\n').expect(rt, "a line of items");
     let mut text = format!(in alloc; "{cells} z | x\n{dominoes}").expect(rt, "memory");

@@ -1,6 +1,7 @@
 //! Searches where memory is refused: the prefix comes back, and the same search then comes to what the row says.
 //!
-//! No memory is refused here: `trials/try_memory.py` does it from outside, and sees by marks where a search begins and ends.
+//! No memory is refused here: `trials/try_memory.py` does it from outside, and sees by marks where a search begins and
+//! ends.
 
 use super::search::{PREFIXES, SEARCHES, outcome_of};
 use super::texts::{LETTERS, problem_of};
@@ -13,7 +14,8 @@ use std::process::Abort;
 /// The number of a search.
 const FIND: usize = 96;
 
-/// The finding of a prefix whose search is marked. Where memory is refused the prefix comes back, and is searched again.
+/// The finding of a prefix whose search is marked. Where memory is refused the prefix comes back, and is searched
+/// again.
 fn found<R: Abort>(
     rt: &R,
     alloc: Global,

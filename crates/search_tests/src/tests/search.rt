@@ -67,7 +67,8 @@ fn ends_over_sets<R: Abort>(
     ends_over(rt, alloc, &tables, visits, first)
 }
 
-/// Whether the search of the empty prefix takes so many visits, and finds this first: by links, and over sets of live options.
+/// Whether the search of the empty prefix takes so many visits, and finds this first: by links, and over sets of live
+/// options.
 pub fn ends_so<R: Abort>(rt: &R, alloc: Global, text: &str, visits: u64, first: &[u16]) -> bool {
     let problem = problem_of(rt, alloc, text);
     ends_by_links(rt, alloc, &problem, visits, first)

@@ -24,7 +24,8 @@ fn push_dominoes(text: &mut Vec<u8>, squares: u8) -> Result<(), AllocError> {
     Ok(())
 }
 
-/// A row of so many squares that is covered with dominoes. A choice bars, on average, less than one name for each square.
+/// A row of so many squares that is covered with dominoes. A choice bars, on average, less than one name for each
+/// square.
 fn dominoes(alloc: Global, squares: u8) -> Result<Vec<u8>, AllocError> {
     let mut text = Vec::new(alloc);
     for square in 0..squares {

@@ -1,8 +1,9 @@
 //! What is written of a run that has come to no answer, by how its sites ended, and of one whose jobs can't be counted.
 //!
-//! Of the bugs of `cover_engines` that are kept outside the gate, `a_run_without_an_answer_tells_the_first_reason` finds
-//! `last_reason_stays` and `a_stopped_site_lacked_a_thread`, `searches_are_summed` finds `visits_are_not_summed` and `shares_are_not_summed`, and
-//! `jobs_that_can_not_be_counted_are_told_of_once` finds `each_uncounted_job_is_told_of` and `spent_jobs_are_told_of`.
+//! Of the bugs of `cover_engines` that are kept outside the gate, `a_run_without_an_answer_tells_the_first_reason`
+//! finds `last_reason_stays` and `a_stopped_site_lacked_a_thread`, `searches_are_summed` finds `visits_are_not_summed`
+//! and `shares_are_not_summed`, and `jobs_that_can_not_be_counted_are_told_of_once` finds
+//! `each_uncounted_job_is_told_of` and `spent_jobs_are_told_of`.
 
 ghost use Rattle.std.specs.Prelude.{◌≤◌};
 
@@ -164,7 +165,8 @@ fn search(alloc: Global, problem: &Problem, child: u16) -> Result<Finding, Fail>
     }
 }
 
-/// What is written of a run in which both children were searched, each with a thousand visits, the second one more than a second later.
+/// What is written of a run in which both children were searched, each with a thousand visits, the second one more than
+/// a second later.
 fn told_of_searches<R: Wait + Clock>(rt: &R, alloc: Global) -> Result<Vec<u8>, Fail> {
     let read = read_problem(alloc, TWO_CHILDREN)?;
     let mut told = Vec::new(alloc);

@@ -1,8 +1,9 @@
 //! Runs whose results a gate holds back, and what it sees of them.
 //!
-//! Of the bugs of `cover_engines` that are kept outside the gate, `a_run_waits_for_a_slow_search` finds `quiet_for_half_a_second` and
-//! `turns_are_cut`, and `a_search_has_the_fuel_of_the_settings` finds `each_job_has_fuel_of_one`. Of the bugs of `site_limits` that are
-//! kept outside the gate, `a_search_has_the_fuel_of_the_settings` finds `a_quota_stops_nothing`.
+//! Of the bugs of `cover_engines` that are kept outside the gate, `a_run_waits_for_a_slow_search` finds
+//! `quiet_for_half_a_second` and `turns_are_cut`, and `a_search_has_the_fuel_of_the_settings` finds
+//! `each_job_has_fuel_of_one`. Of the bugs of `site_limits` that are kept outside the gate,
+//! `a_search_has_the_fuel_of_the_settings` finds `a_quota_stops_nothing`.
 
 ghost use Rattle.std.specs.Prelude.{◌≡◌};
 
@@ -104,7 +105,8 @@ fn a_run_waits_for_a_slow_search(rt: HostRuntime) -> Result<(), Fail> {
     Ok(())
 }
 
-/// How many visits the longest search makes in a run of the second row's problem, whose root takes three, with so much fuel.
+/// How many visits the longest search makes in a run of the second row's problem, whose root takes three, with so much
+/// fuel.
 fn longest<R: Threads + Wait + Clock + Net + RandomSource + Sync>(
     rt: &R,
     alloc: Global,

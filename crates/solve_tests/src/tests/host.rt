@@ -1,4 +1,5 @@
-//! The call that the program makes, where it has no answer to write: over links that forge, that lose all, or that aren't there.
+//! The call that the program makes, where it has no answer to write: over links that forge, that lose all, or that
+//! aren't there.
 //!
 //! Of the bugs of `cover_engines` that are kept outside the gate, `a_limit_is_counted_in_seconds` finds `no_limit` and
 //! `seconds_are_milliseconds`.
@@ -25,8 +26,8 @@ use udp_node::{Link, LinkFault, UdpLink};
 /// What is wrong with all links of a run.
 #[derive(Clone, Copy, Debug, PartialEq, Eq)]
 enum Wrong {
-    /// The first receive of each node brings a packet of the registry that was never sent. A node has the root's Give from a later
-    /// receive, so where there is an answer some node's book has such a packet, whichever node it was.
+    /// The first receive of each node brings a packet of the registry that was never sent. A node has the root's Give
+    /// from a later receive, so where there is an answer some node's book has such a packet, whichever node it was.
     Forging,
     /// All that is sent is lost.
     Mute,
@@ -42,8 +43,8 @@ struct Odd {
     has_received: bool,
 }
 
-/// The packet by which the registry says to this node that there is no work, though it was not asked. None for the registry, or where
-/// memory runs out.
+/// The packet by which the registry says to this node that there is no work, though it was not asked. None for the
+/// registry, or where memory runs out.
 fn forged(alloc: Global, node: u8) -> Option<Vec<u8>> {
     let packet = Packet {
         from: Site {
@@ -201,7 +202,8 @@ fn a_forged_packet_makes_an_audit_unclean(rt: HostRuntime) -> Result<(), Fail> {
     Ok(())
 }
 
-/// How many seconds a run of one may last on a machine that does other things, too. Without its limit it lasts 24 at least.
+/// How many seconds a run of one may last on a machine that does other things, too. Without its limit it lasts 24 at
+/// least.
 const LATEST: u64 = 15;
 
 #[test]

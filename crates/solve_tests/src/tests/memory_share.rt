@@ -1,6 +1,7 @@
 //! How large the books of a run may be: by the machine's memory, and by the request.
 //!
-//! Of the bugs of `cover_engines` that are kept outside the gate, `a_tenth_of_the_memory` finds `books_take_all_of_the_memory`.
+//! Of the bugs of `cover_engines` that are kept outside the gate, `a_tenth_of_the_memory` finds
+//! `books_take_all_of_the_memory`.
 
 use super::{NOTHING, sized, solve_on};
 use cover_engines::{Loopback, USUAL_BOOK_BYTES, book_bytes_of};
@@ -36,7 +37,8 @@ fn a_tenth_of_the_memory(rt: HostRuntime) -> Result<(), Fail> {
     Ok(())
 }
 
-/// The pairs of thirteen items, those with the first item twice: no pairs cover thirteen items. A search visits some 125,000 prefixes.
+/// The pairs of thirteen items, those with the first item twice: no pairs cover thirteen items. A search visits some
+/// 125,000 prefixes.
 const PAIRS: &str = "a b c d e f g h i j k l m\n\
     a b\na c\na d\na e\na f\na g\na h\na i\na j\na k\na l\na m\n\
     a b\na c\na d\na e\na f\na g\na h\na i\na j\na k\na l\na m\n\

@@ -1,8 +1,8 @@
 //! Runs in an order that a gate brings about, and whom nodes ask first.
 //!
-//! No contract says that nodes work at once. Of the bugs of `udp_node` that are kept outside the gate, `gate_two_nodes` finds
-//! `asks_the_registry_alone`. Of the bugs of `cover_engines` that are kept outside the gate, `gate_two_workers` finds
-//! `one_worker_in_each_node`, and `a_seed_draws_victims_of_its_own` finds `the_seed_is_ignored`.
+//! No contract says that nodes work at once. Of the bugs of `udp_node` that are kept outside the gate, `gate_two_nodes`
+//! finds `asks_the_registry_alone`. Of the bugs of `cover_engines` that are kept outside the gate, `gate_two_workers`
+//! finds `one_worker_in_each_node`, and `a_seed_draws_victims_of_its_own` finds `the_seed_is_ignored`.
 
 ghost use Rattle.std.specs.Prelude.{◌≡◌, ◌+◌, vec_len};
 

@@ -1,6 +1,7 @@
 //! A site that has no memory to start.
 //!
-//! Of the bugs of `cover_engines` that are kept outside the gate, `a_site_without_memory_is_a_fault` finds `want_of_memory_is_no_answer`.
+//! Of the bugs of `cover_engines` that are kept outside the gate, `a_site_without_memory_is_a_fault` finds
+//! `want_of_memory_is_no_answer`.
 
 ghost use Rattle.std.specs.Prelude.{◌≡◌, ◌+◌, ℕ, length, vec_len, IfOk, IfSome};
 ghost use Rattle.site_network.specs.Links.{failed_once};

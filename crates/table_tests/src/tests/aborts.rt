@@ -197,7 +197,8 @@ fn aborts_reach_all_below_and_no_other(rt: HostRuntime) {
     }
 }
 
-/// A guest with children 0 and 1, of which 1 was split before 0: below 1 are 2 and 3, below 0 are 4 and 5. 2 and 4 are out.
+/// A guest with children 0 and 1, of which 1 was split before 0: below 1 are 2 and 3, below 0 are 4 and 5. 2 and 4 are
+/// out.
 static SPLIT_BACKWARDS: &[Step] = &[
     Split(Guest(ROOT, 1), &[0, 1]),
     Split(Own(1), &[2, 3]),
@@ -254,7 +255,8 @@ fn what_is_below_two_units_is_reached_once(rt: HostRuntime) {
     run_anew(&rt, rt.alloc(), &[], &[SPLIT_BACKWARDS, REACHED_ONCE]);
 }
 
-/// A guest with children 0 and 1, of which 1 was taken up and split first: below 1 is 2, below 0 is 3. 3 is given away, then 2.
+/// A guest with children 0 and 1, of which 1 was taken up and split first: below 1 is 2, below 0 is 3. 3 is given away,
+/// then 2.
 static ONE_CHILD_EACH: &[Step] = &[
     Split(Guest(ROOT, 1), &[0, 1]),
     Split(Own(1), &[4]),

@@ -29,8 +29,8 @@ type Told = (u32, u32, &'static [u16]);
 enum Step {
     /// A child is given to this site, at the first attempt with the prefix [7]; whether it becomes a guest.
     Receive(ChildName, bool),
-    /// Two children are given to this site together, at the first attempt with the prefixes [7, 8] and [7, 9]; whether any
-    /// becomes a guest.
+    /// Two children are given to this site together, at the first attempt with the prefixes [7, 8] and [7, 9]; whether
+    /// any becomes a guest.
     ReceiveBoth(Site, [u32; 2], bool),
     /// The unit that is taken up, at its first attempt.
     Take(Unit),
@@ -414,8 +414,8 @@ fn returns_meet_every_status(rt: HostRuntime) {
     run_node(&rt, rt.alloc(), RETURNS);
 }
 
-/// The ready child of least serial is given, wherever it stands among children that aren't ready, with those of its parent
-/// that go with it, and no other is out then.
+/// The ready child of least serial is given, wherever it stands among children that aren't ready, with those of its
+/// parent that go with it, and no other is out then.
 static LEAST_GIVEN: &[Step] = &[
     Receive(OF_3, true),
     Receive(ROOT, true),
@@ -547,8 +547,8 @@ fn children_come_together_and_go_by_themselves(rt: HostRuntime) {
 }
 
 static MEMBERS: &[Step] = &[
-    // Below a guest of node 2: 0 and 1 out to node 3, 2 out to node 2. Below the root: 3 out to node 2, 4 out to node 3.
-    // Another guest of node 2 is ready.
+    // Below a guest of node 2: 0 and 1 out to node 3, 2 out to node 2. Below the root: 3 out to node 2, 4 out to node
+    // 3. Another guest of node 2 is ready.
     Receive(OF_2, true),
     Take(Guest(OF_2, 1)),
     Split(Guest(OF_2, 1), &[2, 3, 4], 0),

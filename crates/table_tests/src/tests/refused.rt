@@ -1,5 +1,5 @@
-//! A `spawn` whose children fit into the last page takes no memory. One that is refused memory changes nothing, and comes to
-//! the same when it is called again.
+//! A `spawn` whose children fit into the last page takes no memory. One that is refused memory changes nothing, and
+//! comes to the same when it is called again.
 //!
 //! No memory is refused here: `trials/try_memory.py` does it from outside, and sees by marks where a `spawn` begins and
 //! ends.

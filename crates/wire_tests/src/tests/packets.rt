@@ -283,11 +283,12 @@ fn beginnings_are_short(rt: HostRuntime) {
     }
 }
 
-/// How many of some bytes are read, and how many have each fault, from `Short` to `Trailing` in the order of their numbers.
+/// How many of some bytes are read, and how many have each fault, from `Short` to `Trailing` in the order of their
+/// numbers.
 type Counts = [usize; 7];
 
-/// What is counted of a packet's beginnings, of its bytes with one more behind them, and of its changes of one byte. A reader of
-/// `trials/try_bytes.py` counted the same.
+/// What is counted of a packet's beginnings, of its bytes with one more behind them, and of its changes of one byte. A
+/// reader of `trials/try_bytes.py` counted the same.
 static COUNTS: [(&[u8], Counts); 12] = [
     (GIVE, [3088, 282, 510, 254, 246, 1760, 260]),
     (RETURN_EMPTY, [3088, 24, 510, 254, 247, 1763, 258]),
@@ -488,7 +489,8 @@ fn cover_returned<R: Abort>(rt: &R, alloc: Global, options: &[u16]) -> Packet {
     packet((2, 1), (0, 1), returned(cover(rt, alloc, options)))
 }
 
-/// Whether these are the bytes of the longest packet of the first version, behind a 7: its list has 1,000 options, 19,000 to 19,999.
+/// Whether these are the bytes of the longest packet of the first version, behind a 7: its list has 1,000 options,
+/// 19,000 to 19,999.
 fn is_longest(bytes: &[u8]) -> bool {
     bytes.len() == 2026
         && &bytes[23..28] == b"\x01\x03\xe8\x4a\x38".as_slice()

@@ -1,6 +1,7 @@
 //! Packets that are read where memory is refused: the fault is `Memory`, and what is read then is what the row says.
 //!
-//! No memory is refused here: `trials/try_memory.py` does it from outside, and sees by marks where a packet begins and ends.
+//! No memory is refused here: `trials/try_memory.py` does it from outside, and sees by marks where a packet begins and
+//! ends.
 
 use super::packets::{FIRST_FAULTS, SPELLINGS, is_at};
 use growth_marks::{begin, end};

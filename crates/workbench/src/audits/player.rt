@@ -13,8 +13,8 @@ use spawn_frame::Job;
 use std::alloc::{AllocError, Global};
 use std::marker::PhantomData;
 
-/// Hands out the events of a run's books once more. A search that was posted is made again, by a searcher that keeps states, as the one
-/// was that made it: its visits may be more than could be made one by one.
+/// Hands out the events of a run's books once more. A search that was posted is made again, by a searcher that keeps
+/// states, as the one was that made it: its visits may be more than could be made one by one.
 #[derive(Drop)]
 pub struct Player<'a, J: Run> {
     searcher: Searcher<'a>,

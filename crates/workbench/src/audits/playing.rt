@@ -23,7 +23,8 @@ const ENTRIES: u64 = 1_000_000;
 /// How many children a node names at most.
 const NAMES: u32 = 1_000_000;
 
-/// A player's event at a cell: the token of its receipt; none where the core refuses it, or where it may not be handed to one.
+/// A player's event at a cell: the token of its receipt; none where the core refuses it, or where it may not be handed
+/// to one.
 fn happens<J: Run, C: Core + Drop, N: CellName, R: Wait>(
     rt: &R,
     player: &mut Player<'_, J>,
@@ -106,8 +107,8 @@ fn node_played<J: Run, N: CellName, R: Wait>(
     played(rt, alloc, player, cell, events)
 }
 
-/// The book of a site at which these events happen from its beginning, in a run of so many nodes. Events that the site refuses
-/// don't happen.
+/// The book of a site at which these events happen from its beginning, in a run of so many nodes. Events that the site
+/// refuses don't happen.
 pub fn play<J: Run, R: Wait>(
     rt: &R,
     alloc: Global,

@@ -21,7 +21,8 @@ use std::thread::Threads;
 use std::time::{Clock, Instant};
 use udp_node::Plan;
 
-/// Prints the entries of a book from this place on: a line for each event, and behind it one for each packet that was put out.
+/// Prints the entries of a book from this place on: a line for each event, and behind it one for each packet that was
+/// put out.
 fn tell_book<J: Run>(rt: &HostRuntime, book: &Book<J>, from: usize) -> Result<(), TrialFault> {
     let site = book.site();
     println!(rt; "book {} {}", site.node, site.incarnation)?;
@@ -63,8 +64,8 @@ fn tell_all<J: Run>(rt: &HostRuntime, alloc: Global, books: &[Book<J>]) -> Resul
     tell_audit(rt, alloc, books)
 }
 
-/// Changes one entry of a book, drawn at random, plays the site's events once more, and prints the change, the changed book from
-/// that entry on, and what an audit finds. The books are the same afterwards.
+/// Changes one entry of a book, drawn at random, plays the site's events once more, and prints the change, the changed
+/// book from that entry on, and what an audit finds. The books are the same afterwards.
 fn try_change<J: Run, R: Wait>(
     trials: &Trials<'_>,
     threads: &R,

@@ -184,8 +184,8 @@ fn problem_of(alloc: Global, share: u32) -> Result<Problem, BenchFault>
     one_item(alloc, 2 * share - 1)
 }
 
-/// A thief that begins gets so many children of a frame, which are ready again after that; all this so many times. A round has
-/// two deliveries, and a redo of each child.
+/// A thief that begins gets so many children of a frame, which are ready again after that; all this so many times. A
+/// round has two deliveries, and a redo of each child.
 pub fn act_shares(alloc: Global, share: u32, times: u64) -> Result<(), BenchFault>
     requires some { 1 ≤ share }
     requires most { share ≤ 8 }

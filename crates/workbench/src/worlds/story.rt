@@ -13,8 +13,8 @@ use spawn_frame::Unit;
 use std::alloc::{AllocError, Global};
 use std::io::{self, Write};
 
-/// How a search is simulated: by how many nodes, from 1 to 16, from which seed, with how many visits a search, and with how many
-/// restarts and turns at most.
+/// How a search is simulated: by how many nodes, from 1 to 16, from which seed, with how many visits a search, and with
+/// how many restarts and turns at most.
 #[derive(Clone, Copy, Debug, PartialEq, Eq)]
 pub struct Plan {
     pub nodes: u8,
@@ -31,8 +31,9 @@ struct Story<'a> {
     arrived: Vec<bool>,
 }
 
-/// Tells the events of a search until an answer is published, or so many turns are over: those that are refused or change
-/// nothing are left out, and so are packets of which there is nothing new to tell. In the end it prints which packets never came to a site.
+/// Tells the events of a search until an answer is published, or so many turns are over: those that are refused or
+/// change nothing are left out, and so are packets of which there is nothing new to tell. In the end it prints which
+/// packets never came to a site.
 pub fn tell<W: Write>(alloc: Global, problem: &Problem, plan: Plan, out: &mut W) -> io::Result<()>
     requires some { 1 ≤ plan.nodes }
     requires most { plan.nodes ≤ LAST_NODE }

@@ -1,7 +1,8 @@
-//! Worlds where memory is refused: a step then changes nothing, and comes to the same when it is taken again; a run stops, and its other
-//! events then come to the same end.
+//! Worlds where memory is refused: a step then changes nothing, and comes to the same when it is taken again; a run
+//! stops, and its other events then come to the same end.
 //!
-//! No memory is refused here: `trials/try_memory.py` does it from outside, and sees by marks where a step or a run begins and ends.
+//! No memory is refused here: `trials/try_memory.py` does it from outside, and sees by marks where a step or a run
+//! begins and ends.
 
 use super::runs::{
     FOUR_WAYS, ITEM, LATE_RESULT, LETTERS, NO_COVER, OVERTAKEN, ROOT, ROOT_REDONE, STOLEN,
@@ -79,7 +80,8 @@ fn is_starved(answer: &Result<Reply, WorldFault>) -> bool {
     )
 }
 
-/// A step between marks. Where memory is refused the world is as its twin, which is behind by it, and the step is taken again.
+/// A step between marks. Where memory is refused the world is as its twin, which is behind by it, and the step is taken
+/// again.
 fn step<R: Abort>(
     rt: &R,
     alloc: Global,
@@ -189,8 +191,8 @@ fn events_of<R: Abort>(rt: &R, alloc: Global, scripts: &[&[Step]]) -> Vec<WorldE
     events
 }
 
-/// Runs on where a run stopped because memory ran out: the events before that one were taken or passed over, as in a new world. How many
-/// were taken in all.
+/// Runs on where a run stopped because memory ran out: the events before that one were taken or passed over, as in a
+/// new world. How many were taken in all.
 fn go_on<R: Abort>(
     rt: &R,
     alloc: Global,

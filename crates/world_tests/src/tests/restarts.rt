@@ -10,8 +10,8 @@ use rand_pcg::Pcg32;
 use std::alloc::Global;
 use std::process::Abort;
 
-/// Node 1 splits the root; node 2 steals its first child and finds no cover there, node 1 finds one at the second. The sibling's
-/// result arrives after the frame has finished.
+/// Node 1 splits the root; node 2 steals its first child and finds no cover there, node 1 finds one at the second. The
+/// sibling's result arrives after the frame has finished.
 static EVENTS: [WorldEvent; 16] = [
     Ask(1, 0),
     Deliver(0),
@@ -31,8 +31,8 @@ static EVENTS: [WorldEvent; 16] = [
     Deliver(6),
 ];
 
-/// Whether the cover is published where the node is restarted after so many of the events, and what can't happen then is passed over.
-/// Where nothing is published by them, the world is brought to an end as a simulation is.
+/// Whether the cover is published where the node is restarted after so many of the events, and what can't happen then
+/// is passed over. Where nothing is published by them, the world is brought to an end as a simulation is.
 fn publishes<R: Abort>(rt: &R, alloc: Global, node: u8, before: usize) -> bool {
     let read = read_problem(alloc, LETTERS.as_bytes()).expect(rt, "a problem");
     let mut world = World::start(alloc, &read.problem, 2).expect(rt, "memory");
