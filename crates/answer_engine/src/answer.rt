@@ -45,7 +45,7 @@ pub struct Task<'a, R: Threads + Wait + Clock + Sync> {
 
 /// What each lane has found.
 #[derive(Drop)]
-pub(crate) struct Found {
+pub(crate) struct LaneResults {
     pub(crate) searched: Result<Option<Won>, AllocError>,
     pub(crate) learned: Result<Option<Won>, AllocError>,
     pub(crate) ran: Option<Won>,
@@ -53,13 +53,13 @@ pub(crate) struct Found {
 
 /// An answer of a lane that has one; none where the search was stopped before any had. The only error is out of memory,
 /// where the search ran out of it, and no other lane has an answer. (The problem is there for the contract alone.)
-pub(crate) fn first_of(_problem: &Problem, found: Found) -> Result<Option<Won>, AllocError>
+pub(crate) fn first_of(_problem: &Problem, found: LaneResults) -> Result<Option<Won>, AllocError>
     requires searched { IfOk found.searched (λ won. IfSome won (IsWonOf _problem.now)) }
     requires learned { IfOk found.learned (λ won. IfSome won (IsWonOf _problem.now)) }
     requires ran { IfSome found.ran (IsWonOf _problem.now) }
     ensures { IfOk result (λ found. IfSome found (IsWonOf _problem.now)) }
 {
-    let Found {
+    let LaneResults {
         searched,
         learned,
         ran,
@@ -113,7 +113,7 @@ fn run_and_search<V: EndWatch, R: Threads + Wait + Clock + Sync>(
 }
 
 /// Lets all lanes look for an answer until one of them has it or the time is over. The only error is out of memory.
-fn raced<V: EndWatch, R: Threads + Wait + Clock + Sync>(
+fn race_lanes<V: EndWatch, R: Threads + Wait + Clock + Sync>(
     task: &Task<'_, R>,
     problem: &Problem,
     watch: &mut V,
@@ -131,7 +131,7 @@ fn raced<V: EndWatch, R: Threads + Wait + Clock + Sync>(
     );
     first_of(
         problem,
-        Found {
+        LaneResults {
             searched,
             learned,
             ran,
@@ -141,7 +141,7 @@ fn raced<V: EndWatch, R: Threads + Wait + Clock + Sync>(
 
 /// Returns an answer; none only where the time is limited, and over. The watch hears what found it. The only error is
 /// out of memory.
-fn decided<V: EndWatch, R: Threads + Wait + Clock + Sync>(
+fn decide<V: EndWatch, R: Threads + Wait + Clock + Sync>(
     task: &Task<'_, R>,
     problem: &Problem,
     watch: &mut V,
@@ -149,17 +149,17 @@ fn decided<V: EndWatch, R: Threads + Wait + Clock + Sync>(
     ensures right { IfOk result (λ found. IfSome found (IsWonOf problem.now)) }
     ensures decides { task.now.time ≡ None → IfOk result (λ found. found ≢ None) }
 {
-    let found = match (raced(task, problem, watch), &task.time) {
+    let found = match (race_lanes(task, problem, watch), &task.time) {
         // (what the other lanes had is free again, and may be enough for a search alone)
         (Err(_), None) => None,
         (found, _) => found?,
     };
-    settled(task, problem, watch, found)
+    or_search_alone(task, problem, watch, found)
 }
 
 /// Returns what the lanes found, or else the answer of a search alone, unless the time is limited. The watch hears what
 /// the answer rests on, but no step of that search. The only error is out of memory.
-pub(crate) fn settled<V: EndWatch, R: Threads + Wait + Clock + Sync>(
+pub(crate) fn or_search_alone<V: EndWatch, R: Threads + Wait + Clock + Sync>(
     task: &Task<'_, R>,
     problem: &Problem,
     watch: &mut V,
@@ -178,7 +178,7 @@ pub(crate) fn settled<V: EndWatch, R: Threads + Wait + Clock + Sync>(
         Some(_) => Ok(None),
         // (without a limit no lane ends before another has an answer, unless memory runs out)
         None => {
-            let won = searched_alone(task.alloc, problem)?;
+            let won = search_alone(task.alloc, problem)?;
             watch.tell(won.basis.line());
             Ok(Some(won))
         }
@@ -187,7 +187,7 @@ pub(crate) fn settled<V: EndWatch, R: Threads + Wait + Clock + Sync>(
 
 /// Returns the answer of a search that nothing stops. The only error is out of memory.
 #[tactic(auto, using(crate::proofs::Firsts::search_is_won))]
-fn searched_alone(alloc: Global, problem: &Problem) -> Result<Won, AllocError>
+fn search_alone(alloc: Global, problem: &Problem) -> Result<Won, AllocError>
     ensures { IfOk result (IsWonOf problem.now) }
 {
     let mut watch = CountingWatch { states: 0 };
@@ -211,7 +211,7 @@ fn write_decided<V: EndWatch, W: Sink, R: Threads + Wait + Clock + Sync>(
         (W.contents sink.old) (W.contents sink.new) (status_in result) }
     ensures failed { result ≡ Err EngineFault.Write → W.failed sink.new ≡ failed_once (W.failed sink.old) }
 {
-    match decided(task, problem, watch) {
+    match decide(task, problem, watch) {
         Ok(won) => write_told(task.alloc, problem, won.as_ref(), task.reason, sink),
         Err(_) => Err(EngineFault::Memory),
     }

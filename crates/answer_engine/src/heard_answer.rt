@@ -6,7 +6,7 @@ ghost use Rattle.answer_engine.specs.Answers.{AnswerSays, IsWonOf};
 ghost use Rattle.dlx_reader.specs.Devices.{failed_once};
 ghost use Rattle.search_engines.specs.Output.{IsOutputOf, status_in};
 
-use crate::answer::{Found, Task, first_of, settled};
+use crate::answer::{LaneResults, Task, first_of, or_search_alone};
 use crate::basis::Won;
 use crate::heard_lanes::heard_search_lane;
 use crate::lanes::learner_lane;
@@ -36,7 +36,7 @@ pub struct Listeners<T: Trace + ReasonListener + Drop, L: LearnerWatch + Drop> {
 
 /// Lets the search and the learner look for an answer until one of them has it or the time is over. The only error is
 /// out of memory.
-fn raced_aloud<
+fn race_heard_lanes<
     V: EndWatch,
     T: Trace + ReasonListener + Drop,
     L: LearnerWatch + Drop + Send,
@@ -74,7 +74,7 @@ fn raced_aloud<
     let ran = None;
     first_of(
         problem,
-        Found {
+        LaneResults {
             searched,
             learned,
             ran,
@@ -84,7 +84,7 @@ fn raced_aloud<
 
 /// Returns an answer; none only where the time is limited, and over. The watch and the listeners hear what found it.
 /// The only error is out of memory.
-fn decided_aloud<
+fn decide_heard<
     V: EndWatch,
     T: Trace + ReasonListener + Drop,
     L: LearnerWatch + Drop + Send,
@@ -103,11 +103,11 @@ fn decided_aloud<
         learner,
         ..
     } = listeners;
-    let found = raced_aloud(task, problem, watch, search, learner)?;
+    let found = race_heard_lanes(task, problem, watch, search, learner)?;
     if let Some(won) = &found {
         listeners.is_learned = won.basis.is_learning();
     }
-    settled(task, problem, watch, found)
+    or_search_alone(task, problem, watch, found)
 }
 
 /// Looks for an answer, writes it, or that there is none in the time, and returns how that ended.
@@ -128,7 +128,7 @@ fn write_decided_aloud<
         (W.contents sink.old) (W.contents sink.new) (status_in result) }
     ensures failed { result ≡ Err EngineFault.Write → W.failed sink.new ≡ failed_once (W.failed sink.old) }
 {
-    match decided_aloud(task, problem, watch, listeners) {
+    match decide_heard(task, problem, watch, listeners) {
         Ok(won) => write_told(task.alloc, problem, won.as_ref(), task.reason, sink),
         Err(_) => Err(EngineFault::Memory),
     }

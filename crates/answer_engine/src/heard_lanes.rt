@@ -4,7 +4,7 @@ ghost use Rattle.std.specs.Prelude.{IfOk, IfSome};
 ghost use Rattle.answer_engine.specs.Answers.{IsWonOf};
 
 use crate::basis::{Basis, Won};
-use crate::lanes::searched;
+use crate::lanes::search_keeping_states;
 use crate::race::{Race, short_limit};
 use crate::race_watches::SearchWatch;
 use brancher::Unwatched;
@@ -24,9 +24,9 @@ fn is_cover(found: &Option<Won>) -> bool {
     }
 }
 
-/// The answer of a search that nothing hears of, within the time that it has before other lanes begin. The only error
-/// is out of memory.
-fn searched_shortly<C: Clock>(
+/// Searches unheard within the time that the search has before other lanes begin, and returns the answer, if it came to
+/// one. The only error is out of memory.
+fn search_briefly<C: Clock>(
     clock: &C,
     race: &Race,
     alloc: Global,
@@ -42,12 +42,13 @@ fn searched_shortly<C: Clock>(
         inner,
         states: 0,
     };
-    searched(alloc, problem, &mut short)
+    search_keeping_states(alloc, problem, &mut short)
 }
 
-/// The answer of the search that keeps states, and that the listener hears of. The only error is out of memory.
+/// Searches, keeping states, while the listener hears of each step, and returns the answer; none where the watch
+/// stopped it. The only error is out of memory.
 #[tactic(auto, using(crate::proofs::Firsts::search_is_won))]
-fn searched_aloud<V: EndWatch, T: Trace + ReasonListener, C: Clock>(
+fn search_heard<V: EndWatch, T: Trace + ReasonListener, C: Clock>(
     alloc: Global,
     problem: &Problem,
     watch: &mut SearchWatch<'_, '_, '_, V, C>,
@@ -64,10 +65,10 @@ fn searched_aloud<V: EndWatch, T: Trace + ReasonListener, C: Clock>(
     }
 }
 
-/// That there is no cover, where a reason of the problem as it stands is found before the watch ends that: no line of a
-/// certificate says any other. The listener hears of it. Where memory runs out none is found, and that is no error.
+/// Looks for a reason of the problem as it stands until the watch ends that: no line of a certificate says any other.
+/// The listener hears of it. Where memory runs out none is found, and that is no error.
 #[tactic(auto, using(crate::proofs::Firsts::cause_is_won))]
-fn excluded_aloud<W: ReasonWatch, T: ReasonListener>(
+fn find_reason_heard<W: ReasonWatch, T: ReasonListener>(
     alloc: Global,
     problem: &Problem,
     watch: &mut W,
@@ -89,7 +90,7 @@ fn excluded_aloud<W: ReasonWatch, T: ReasonListener>(
 
 /// The answer of a short search if that is a cover, of a reason that excludes covers, or of a search that the listener
 /// hears of. The only error is out of memory.
-fn decided_aloud<V: EndWatch, T: Trace + ReasonListener, C: Clock>(
+fn search_briefly_then_heard<V: EndWatch, T: Trace + ReasonListener, C: Clock>(
     alloc: Global,
     problem: &Problem,
     watch: &mut SearchWatch<'_, '_, '_, V, C>,
@@ -98,16 +99,16 @@ fn decided_aloud<V: EndWatch, T: Trace + ReasonListener, C: Clock>(
     ensures { IfOk result (λ found. IfSome found (IsWonOf problem.now)) }
 {
     // (most covers are found so soon, and lines about them would be thrown away)
-    let short = searched_shortly(watch.clock, watch.race, alloc, problem)?;
+    let short = search_briefly(watch.clock, watch.race, alloc, problem)?;
     if is_cover(&short) {
         return Ok(short);
     }
     if short.is_none() {
-        if let Some(won) = excluded_aloud(alloc, problem, watch, listener) {
+        if let Some(won) = find_reason_heard(alloc, problem, watch, listener) {
             return Ok(Some(won));
         }
     }
-    searched_aloud(alloc, problem, watch, listener)
+    search_heard(alloc, problem, watch, listener)
 }
 
 /// The lane of a search that the listener hears of, and of a reason. The only error is out of memory.
@@ -121,7 +122,7 @@ pub(crate) fn heard_search_lane<V: EndWatch, T: Trace + ReasonListener, C: Clock
 {
     let race = watch.race;
     race.begin();
-    let found = decided_aloud(alloc, problem, watch, listener);
+    let found = search_briefly_then_heard(alloc, problem, watch, listener);
     // (where it has no answer it was stopped, by another lane's answer or because the time is over)
     if found.is_ok() {
         race.end();

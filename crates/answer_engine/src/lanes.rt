@@ -19,9 +19,10 @@ use std::sync::atomic::AtomicBool;
 use std::thread::Threads;
 use std::time::Clock;
 
-/// The answer of the search that keeps states. The only error is out of memory.
+/// Searches as `search_until` does, keeping states, and returns the answer; none where the watch stopped it. The only
+/// error is out of memory.
 #[tactic(auto, using(crate::proofs::Firsts::search_is_won))]
-pub(crate) fn searched<V: EndWatch, C: Clock>(
+pub(crate) fn search_keeping_states<V: EndWatch, C: Clock>(
     alloc: Global,
     problem: &Problem,
     watch: &mut SearchWatch<'_, '_, '_, V, C>,
@@ -47,7 +48,7 @@ pub(crate) fn search_lane<V: EndWatch, C: Clock>(
 {
     let race = watch.race;
     race.begin();
-    let found = searched(alloc, problem, watch);
+    let found = search_keeping_states(alloc, problem, watch);
     // (where it has no answer it was stopped, by another lane's answer or because the time is over)
     if found.is_ok() {
         race.end();
@@ -69,7 +70,7 @@ fn answer_of(problem: &Problem, found: Found) -> Option<Answer>
 
 /// Looks for a cover by learning. The only error is out of memory.
 #[tactic(auto, using(crate::proofs::Firsts::right_is_won))]
-fn learned<L: LearnerWatch>(
+fn learn<L: LearnerWatch>(
     alloc: Global,
     problem: &Problem,
     watch: &mut L,
@@ -101,17 +102,17 @@ pub(crate) fn learner_lane<R: Wait, L: LearnerWatch>(
     if !race.await_learning(rt) {
         return Ok(None);
     }
-    let found = learned(alloc, problem, watch);
+    let found = learn(alloc, problem, watch);
     if let Ok(Some(_)) = &found {
         race.end();
     }
     found
 }
 
-/// That there is no cover, where a reason is found before the watch ends that. Where memory runs out none is found, and
-/// that is no error: a search may need less.
+/// Looks for a reason why there is no cover until the watch ends that. Where memory runs out none is found, and that is
+/// no error: a search may need less.
 #[tactic(auto, using(crate::proofs::Firsts::cause_is_won))]
-fn excluded<W: ReasonWatch>(alloc: Global, problem: &Problem, watch: &mut W) -> Option<Won>
+fn find_reason<W: ReasonWatch>(alloc: Global, problem: &Problem, watch: &mut W) -> Option<Won>
     ensures { IfSome result (IsWonOf problem.now) }
 {
     match find_cause_until(alloc, problem, watch) {
@@ -123,8 +124,8 @@ fn excluded<W: ReasonWatch>(alloc: Global, problem: &Problem, watch: &mut W) -> 
     }
 }
 
-/// The answer of a run of so many workers, if it has one.
-fn ran<R: Threads + Wait + Clock + Sync>(
+/// Runs so many workers in memory and returns their answer, if they come to one.
+fn run_workers<R: Threads + Wait + Clock + Sync>(
     rt: &R,
     alloc: Global,
     problem: &Problem,
@@ -145,9 +146,9 @@ fn ran<R: Threads + Wait + Clock + Sync>(
     }
 }
 
-/// The answer of a run of so many workers, which begins once the search has lasted a tenth of a second; none where
-/// there are none.
-fn ran_later<R: Threads + Wait + Clock + Sync>(
+/// Runs so many workers as `run_workers` does, if there are any. They begin some time after a reason was looked for in
+/// vain, so a tenth of a second after the search at the earliest.
+fn run_workers_later<R: Threads + Wait + Clock + Sync>(
     rt: &R,
     alloc: Global,
     problem: &Problem,
@@ -160,7 +161,7 @@ fn ran_later<R: Threads + Wait + Clock + Sync>(
     if workers == 0 || !race.await_run(rt) {
         return None;
     }
-    ran(rt, alloc, problem, workers, race.over())
+    run_workers(rt, alloc, problem, workers, race.over())
 }
 
 /// The lane of a reason, and then of a run in memory if so many threads are more than the other lanes need. Where
@@ -178,9 +179,9 @@ pub(crate) fn run_lane<R: Threads + Wait + Clock + Sync>(
     if !race.await_reason(rt, threads) {
         return None;
     }
-    let found = match excluded(alloc, problem, watch) {
+    let found = match find_reason(alloc, problem, watch) {
         Some(won) => Some(won),
-        None => ran_later(rt, alloc, problem, workers_of(threads), race),
+        None => run_workers_later(rt, alloc, problem, workers_of(threads), race),
     };
     if found.is_some() {
         race.end();

@@ -2,8 +2,9 @@
 //!
 //! Two slots and a worth that fades are as in the transposition tables of chess programs ("two-tier replacement"),
 //! where a deep entry is kept beside a recent one. A new key always goes in, over the one of lesser worth. Worth is by
-//! the visits that a state took, so what was dear to find stays longest; it fades with each key that is kept beside it,
-//! and is as at first once its key is found.
+//! the visits that a state took, so what was dear to find stays longest (or by its number, where a search writes a
+//! certificate and numbers its states); it fades with each key that is kept beside it, and is as at first once its key
+//! is found.
 //!
 //! The part of the slots that is in use doubles as more is kept, since memory that was never touched costs time. Then
 //! each key moves to where it is looked for from then on. Left where they are, half of them would not be found again,

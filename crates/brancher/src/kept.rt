@@ -143,7 +143,8 @@ impl Kept {
         }
     }
 
-    /// How many visits were kept of the chosen options, if they were, and the search looks already.
+    /// How many visits were kept of the chosen options, or the number that a trace of the search gave them, if they
+    /// were kept and the search looks already.
     #[inline(always)]
     pub fn look<B: Branching>(&mut self, state: &B) -> Option<u64>
         ensures unchanged { self.new ≡ self.old }

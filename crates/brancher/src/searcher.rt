@@ -211,17 +211,18 @@ impl<'a> Searcher<'a> {
         let Ok(room) = Vec::with_capacity(self.alloc, self.kernel.problem().primary()) else {
             return Err(prefix);
         };
-        let (outcome, made) = match self.visit(&prefix, fuel, watch) {
+        let (outcome, count) = match self.visit(&prefix, fuel, watch) {
             Visit::Found => (Outcome::Cover, fuel),
             Visit::Barren(left) => (Outcome::Barren, fuel - left),
             Visit::Spent => (Outcome::Spent, fuel),
             Visit::Stopped(_) => return Ok(None),
         };
-        Ok(Some((self.copied_into(room, prefix, fuel, outcome), made)))
+        Ok(Some((self.copied_into(room, prefix, fuel, outcome), count)))
     }
 
-    /// Searches as `find_until` does. Where the watch stopped it, it returns what it came to by then: with fuel for the
-    /// visits that were made alone it would be spent, so the finding has that fuel. None where not one was made.
+    /// Searches as `find_until` does. Where the watch stopped it, it returns what it came to by then: with fuel for
+    /// what was counted until then, skipped visits too, it would be spent, so the finding has that fuel. None where
+    /// nothing was counted.
     pub fn find_so_far<W: Watch>(
         &mut self,
         prefix: Vec<u16>,
@@ -247,14 +248,14 @@ impl<'a> Searcher<'a> {
         let Ok(room) = Vec::with_capacity(self.alloc, self.kernel.problem().primary()) else {
             return Err(prefix);
         };
-        let (fuel, outcome, made) = match self.visit(&prefix, fuel, watch) {
+        let (fuel, outcome, count) = match self.visit(&prefix, fuel, watch) {
             Visit::Found => (fuel, Outcome::Cover, fuel),
             Visit::Barren(left) => (fuel, Outcome::Barren, fuel - left),
             Visit::Spent => (fuel, Outcome::Spent, fuel),
             Visit::Stopped(left) if left < fuel => (fuel - left, Outcome::Spent, fuel - left),
             Visit::Stopped(_) => return Ok(None),
         };
-        Ok(Some((self.copied_into(room, prefix, fuel, outcome), made)))
+        Ok(Some((self.copied_into(room, prefix, fuel, outcome), count)))
     }
 
     /// How many visits a search of a prefix takes below which there is no cover, where that is seen before the watch

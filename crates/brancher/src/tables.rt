@@ -67,7 +67,8 @@ impl<'a> Tables<'a> {
         self.problem
     }
 
-    /// Whether searches over these tables go over sets of live options; else they go by links.
+    /// Whether searches over these tables go over sets of live options; else they go by links. Only tests and tools
+    /// ask.
     pub fn has_sets(&self) -> bool {
         self.sets.is_some()
     }

@@ -45,7 +45,7 @@ fn made_with<W: ReasonWatch>(
 }
 
 /// The problem with a further secondary item for each of the cliques, if they are such: it has the same exact covers.
-/// The only error is out of memory.
+/// The only error is out of memory. The program calls `with_cliques_until`.
 pub fn with_cliques(
     alloc: Global,
     problem: &Problem,

@@ -85,8 +85,8 @@ impl<'a, E: Sink, R: Wait + Clock> FollowedRun<'a, E, R> {
 }
 
 impl<'a, E: Sink> State<'a, E> {
-    /// Counts a prefix that a worker has searched. A search that found a cover doesn't report its visits, so that none
-    /// are counted then.
+    /// Counts a prefix that a worker has searched. Visits of a search that found a cover aren't counted, since the run
+    /// ends with it.
     fn note(&mut self, finding: &Finding, visits: u64) {
         self.jobs = self.jobs.saturating_sub(1);
         if finding.outcome() != Outcome::Cover {

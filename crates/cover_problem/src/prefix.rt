@@ -127,7 +127,8 @@ fn ascends(numbers: &[u16]) -> bool
     true
 }
 
-/// Whether these are options of the problem, in the order of the file and none of them twice.
+/// Whether these are options of the problem, in the order of the file and none of them twice. What the program writes
+/// is so by its contracts, so only tests ask.
 pub fn in_file_order(problem: &Problem, options: &[u16]) -> bool
     ensures { IsTrue result ↔ InFileOrder problem.now options.now }
 {

@@ -20,7 +20,8 @@ const MODULI: [u8; 8] = [2, 3, 4, 8, 9, 5, 7, 16];
 /// or 16, or else too little room by any multipliers.
 ///
 /// Where it finds none there may be a cover or none. It takes memory of the order of the items' square, and time of the
-/// order of their cube, a second or three at most. The only error is out of memory.
+/// order of their cube, a second or three at most. The only error is out of memory. The program calls
+/// `find_reason_until`.
 pub fn find_reason(alloc: Global, problem: &Problem) -> Result<Option<Reason>, AllocError>
     ensures holds { IfOk result (λ found.
         IfSome found (λ reason. holds_of problem.now reason ≡ true)) }

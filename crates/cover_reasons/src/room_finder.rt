@@ -31,7 +31,7 @@ const MOST_STEPS: usize = 20_000_000;
 ///
 /// Where it finds none there may be a cover or none. It looks at some 20,000,000 items of options at most, each
 /// option's items counted as often as it looks at them or adds them up, and takes memory of the order of the items'
-/// square. The only error is out of memory.
+/// square. The only error is out of memory. The program calls `find_room_until`.
 pub fn find_room(alloc: Global, problem: &Problem) -> Result<Option<Room>, AllocError>
     ensures { IfOk result (λ found. IfSome found (λ room. is_too_little problem.now room ≡ true)) }
 {

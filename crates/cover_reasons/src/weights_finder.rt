@@ -17,7 +17,8 @@ use std::alloc::{AllocError, Global};
 /// weights. Numbers beyond 2 to 127 are passed over, and only a prime or a power of one is looked at as it should be.
 ///
 /// Where it finds none there may be a cover or none, and there may be such weights modulo other numbers. It takes
-/// memory of the order of the primary items' square. The only error is out of memory.
+/// memory of the order of the primary items' square. The only error is out of memory. The program calls
+/// `find_weights_until`.
 pub fn find_weights(
     alloc: Global,
     problem: &Problem,

@@ -243,7 +243,7 @@ impl<'a> Links<'a> {
     /// The first uncovered primary item; none where all are covered.
     ///
     /// With `next_item` the uncovered items can be walked through in the order of the file. A search asks for its
-    /// branch item instead.
+    /// branch item instead, so only tests call the two.
     pub fn first_item(&self) -> Option<u16>
         ensures first { result ≡ slice_get (open_items_from self.now.problem self.now.chosen 0) 0 }
         ensures uncovered { IfSome result (IsOpen self.now.problem self.now.chosen) }

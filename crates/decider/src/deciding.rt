@@ -60,7 +60,8 @@ pub fn decide<B: Branching, W: Watch, T: Trace>(
     // (as asked before the children, also if a trial began or ended below)
     let is_kept = looks && !kept.is_early();
     if is_kept {
-        // (in the table a number stands in place of the visits: it is in no clause either)
+        // (a trace's number stands in place of the visits. Nothing proved depends on it, but the worth of what is kept
+        // and what trials count as saved go by it)
         kept.keep(state, trace.keeps(state.chosen().len(), visits));
     }
     Decision::Barren(visits)

@@ -371,7 +371,7 @@ pub fn read_text(alloc: Global, text: &[u8]) -> Result<Read, TextFault>
     read_lines(alloc, text)
 }
 
-/// Reads a problem as `read_text` does. The error doesn't have the name that no item has.
+/// Reads a problem as `read_text` does, which the program calls. The error doesn't have the name that no item has.
 pub fn read_problem(alloc: Global, text: &[u8]) -> Result<Read, ReadFault>
     ensures problem { IfOk result (λ read. IsProblemOf text.now read.problem read.ignored) }
     ensures refused { IfErr result (λ e. e ≢ Memory → HasNoProblem text.now) }

@@ -1,4 +1,4 @@
-//! Tests of live rows. Nothing else is here, since a crate with tests is proved twice.
+//! Tests of live sets. Nothing else is here, since a crate with tests is proved twice.
 #![tactic(auto)]
 
 #[cfg(test)]

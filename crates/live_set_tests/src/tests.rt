@@ -1,4 +1,4 @@
-//! Searches over live rows of small problems, beside searches over links.
+//! Searches over live sets of small problems, beside searches over links.
 
 use choices::Branching;
 use dancing_links::Links;

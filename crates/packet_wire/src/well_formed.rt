@@ -201,6 +201,8 @@ fn is_body(body: &Body) -> bool
 /// each other packet for a node. Attempts and incarnations are at least 1; a Members has 1 to 16 of them. Lists have at
 /// most 1,000 numbers of options, each at most 19,999, and a cover at least one. A GiveMany goes from a node to a node;
 /// it has 2 to 8 children, whose serials rise, and the prefix of their parent has at most 999 options.
+///
+/// What a core puts out is so by its contract, so only tests and tools ask.
 pub fn is_well_formed(packet: &Packet) -> bool
     ensures { result ≡ is_well_formed packet.now }
 {

@@ -96,7 +96,7 @@ impl<J: Run> Book<J> {
     }
 }
 
-/// Whether no two of the books are of one site.
+/// Whether no two of the books are of one site. Those of a run aren't, by how they are made: only tests and tools ask.
 pub fn distinct_sites<J: Run>(books: &[Book<J>]) -> bool
     ensures { result ≡ are_distinct books.now }
 {

@@ -28,7 +28,8 @@ use std::time::Clock;
 /// How a run of `alone` ended: with status 0 for a cover, 1 for none, 4 for no answer within its limits.
 pub type AloneEnd = EngineEnd;
 
-/// Searches with so many visits at most, writes the answer, or that there is none yet, and returns how that ended.
+/// Searches until it has counted so many visits, writes the answer, or that there is none yet, and returns how that
+/// ended.
 #[tactic(auto, using(crate::proofs::Given::fueled_said))]
 fn write_fueled<W: Sink>(
     alloc: Global,
@@ -47,8 +48,9 @@ fn write_fueled<W: Sink>(
     }
 }
 
-/// Reads a problem to its end, searches it with so many visits at most, and writes its first cover, with the options
-/// in the order of the file, or `none`, or `no answer` where the fuel was spent.
+/// Reads a problem to its end, searches it until so many visits are counted, those below a skipped state too, and
+/// writes its first cover, with the options in the order of the file, or `none`, or `no answer` where it would count
+/// more.
 ///
 /// # Errors
 ///

@@ -16,8 +16,8 @@ use cover_problem::{Answer, Problem};
 use std::alloc::{AllocError, Global};
 use std::time::Clock;
 
-/// Searches with so many visits at most, or any number, and returns the answer, or why there is none: they were all
-/// made, or the watch stopped it.
+/// Searches until it has counted so many visits, or without such a limit, and returns the answer, or why there is none:
+/// it would count more, or the watch stopped it.
 #[tactic(auto, using(crate::proofs::Outcomes::given_first, crate::proofs::Given::ordered))]
 fn given_answer<V: Watch, C: Clock>(
     clock: &C,
@@ -40,7 +40,7 @@ fn given_answer<V: Watch, C: Clock>(
 }
 
 /// Returns the answer of a problem: its first cover, with its options in the order of the file, or that there is none;
-/// or why it has no answer: the search would make more visits than the limits allow, or has lasted as long as they do.
+/// or why it has no answer: the search would count more visits than the limits allow, or has lasted as long as they do.
 /// Where visits have no limit, a reason is looked for after a hundredth of a second, shortly, and after a tenth. The
 /// only error is out of memory.
 #[tactic(auto, using(crate::proofs::Outcomes::whole_by, crate::proofs::Outcomes::timed_by))]

@@ -8,7 +8,7 @@ ghost use Rattle.used_items.specs.Covers.{HaveSameCovers};
 
 use crate::deciding::RootWatch;
 use crate::looking::{LATE, LookingWatch};
-use crate::searching::searched;
+use crate::searching::search_uncounted;
 use crate::walk_watch::{ForProblem, WalkWatch};
 use brancher::{Tables, Watch};
 use cover_problem::{Answer, Problem, in_order};
@@ -44,7 +44,7 @@ fn answer_of_walk(
 
 /// Searches the problem that the type names, in turns with a walk, until one of them has the answer or the watch stops
 /// both. The only error is out of memory.
-fn searched_in_turns<P: ForProblem, V: Watch, C: Clock>(
+fn search_in_turns<P: ForProblem, V: Watch, C: Clock>(
     clock: &C,
     alloc: Global,
     tables: &Tables<'_>,
@@ -58,7 +58,7 @@ fn searched_in_turns<P: ForProblem, V: Watch, C: Clock>(
     ensures order { IfOk result (λ found. IfSome found (IsWritable tables.now)) }
 {
     let mut turns: WalkWatch<'_, '_, P, V, C> = WalkWatch::new(clock, watch, walk);
-    if let Some(answer) = searched(alloc, tables, &mut turns, &mut Untraced)? {
+    if let Some(answer) = search_uncounted(alloc, tables, &mut turns, &mut Untraced)? {
         return Ok(Some(answer));
     }
     answer_of_walk(alloc, tables.problem(), turns.walk())
@@ -86,7 +86,7 @@ fn walk_over<'a>(
 
 /// Searches the problem in turns with a walk, which asks about the problem with those items made primary that each
 /// exact cover uses, if some are found. It returns nothing, too, where there is no memory for a walk.
-fn searched_asking<V: Watch, C: Clock>(
+fn search_and_ask<V: Watch, C: Clock>(
     clock: &C,
     alloc: Global,
     tables: &Tables<'_>,
@@ -100,7 +100,7 @@ fn searched_asking<V: Watch, C: Clock>(
 {
     match walk_over(alloc, tables.problem(), made) {
         // (a type names the problem in the contract of the watch: here Brand gets the name of this one)
-        Ok(walk) => searched_in_turns::<Brand, V, C>(clock, alloc, tables, walk, watch),
+        Ok(walk) => search_in_turns::<Brand, V, C>(clock, alloc, tables, walk, watch),
         Err(AllocError) => Ok(None),
     }
 }
@@ -120,9 +120,9 @@ fn with_more_primary<V: Watch>(
     }
 }
 
-/// Does what `searched_asking` does, but now and then both rest while a reason by multipliers is looked for. One that
+/// Does what `search_and_ask` does, but now and then both rest while a reason by multipliers is looked for. One that
 /// is found ends them.
-fn searched_at_length<V: Watch, C: Clock>(
+fn search_until_reason<V: Watch, C: Clock>(
     clock: &C,
     alloc: Global,
     tables: &Tables<'_>,
@@ -136,7 +136,7 @@ fn searched_at_length<V: Watch, C: Clock>(
 {
     let problem = tables.problem();
     let mut looking = LookingWatch::new(clock, alloc, problem, watch, LATE);
-    if let Some(answer) = searched_asking(clock, alloc, tables, made, &mut looking)? {
+    if let Some(answer) = search_and_ask(clock, alloc, tables, made, &mut looking)? {
         return Ok(Some(answer));
     }
     Ok(looking.answer(problem))
@@ -145,7 +145,7 @@ fn searched_at_length<V: Watch, C: Clock>(
 /// Searches the problem, in turns with a walk that asks a learner, until it is decided or the watch stops both, and
 /// returns the answer, or none where it was stopped. Now and then a reason is looked for. The only error is out of
 /// memory.
-pub(crate) fn searched_and_asked<V: Watch, C: Clock>(
+pub(crate) fn search_at_length<V: Watch, C: Clock>(
     clock: &C,
     alloc: Global,
     tables: &Tables<'_>,
@@ -156,9 +156,9 @@ pub(crate) fn searched_and_asked<V: Watch, C: Clock>(
     ensures order { IfOk result (λ found. IfSome found (IsWritable tables.now)) }
 {
     let made = with_more_primary(alloc, tables.problem(), watch);
-    if let Some(answer) = searched_at_length(clock, alloc, tables, made.as_ref(), watch)? {
+    if let Some(answer) = search_until_reason(clock, alloc, tables, made.as_ref(), watch)? {
         return Ok(Some(answer));
     }
     // (the watch stopped it, which it does again at its first look; or there was no memory for the walk)
-    searched(alloc, tables, watch, &mut Untraced)
+    search_uncounted(alloc, tables, watch, &mut Untraced)
 }

@@ -12,7 +12,7 @@ use crate::engine::Written;
 use crate::fault::EngineFault;
 use crate::lines::{write_given, write_solution};
 use crate::progress_watch::EndWatch;
-use crate::searching::{counted_or_searched, searched};
+use crate::searching::{search_counting_first, search_uncounted};
 use crate::stopwatch::Stopwatch;
 use crate::unanswered::Unanswered;
 use brancher::{Tables, Watch};
@@ -78,15 +78,15 @@ pub fn certified_until<V: Watch, T: Trace + ReasonListener, C: Clock>(
     let tables = Tables::build(alloc, problem)?;
     let stopwatch = Stopwatch::new(clock);
     let mut short = ShortWatch { clock, stopwatch };
-    match counted_or_searched(alloc, &tables, &mut short)? {
+    match search_counting_first(alloc, &tables, &mut short)? {
         Some(Answer::Cover(options)) => Ok(Some(Answer::Cover(options))),
         // (once more, and aloud: most covers are found sooner, and lines about them would be thrown away)
-        Some(Answer::NoCover) => searched(alloc, &tables, watch, listener),
+        Some(Answer::NoCover) => search_uncounted(alloc, &tables, watch, listener),
         None => {
             if is_excluded_aloud(alloc, problem, watch, listener) {
                 return Ok(Some(Answer::NoCover));
             }
-            searched(alloc, &tables, watch, listener)
+            search_uncounted(alloc, &tables, watch, listener)
         }
     }
 }

@@ -148,7 +148,7 @@ fn write_none_by<W: Sink>(
     }
 }
 
-/// Searches for a cover with so many visits at most, writes whether none is right, and returns how that ended.
+/// Searches for a cover until so many visits are counted, writes whether none is right, and returns how that ended.
 #[tactic(auto, using(crate::proofs::Given::fueled_none))]
 fn write_none<W: Sink>(
     alloc: Global,
@@ -235,7 +235,7 @@ fn write_check_within<W: Sink, C: Clock>(
 }
 
 /// Reads a problem and an answer to it, both to their ends, tests the answer, and writes `right`, or what is wrong, or
-/// `no answer`: a cover is tested by counting, and that there is none by a search of so many visits at most.
+/// `no answer`: a cover is tested by counting, and that there is none by a search that counts so many visits at most.
 ///
 /// # Errors
 ///

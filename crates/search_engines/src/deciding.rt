@@ -11,9 +11,9 @@ ghost use Rattle.cover_problem.specs.Search.{first};
 ghost use Rattle.dlx_reader.specs.Writing.{IsWritable};
 ghost use Rattle.search_engines.specs.Alone.{answer_by};
 
-use crate::asking::searched_and_asked;
+use crate::asking::search_at_length;
 use crate::looking::{EARLY, LookingWatch};
-use crate::searching::counted_or_searched;
+use crate::searching::search_counting_first;
 use crate::stopwatch::Stopwatch;
 use brancher::{Tables, Watch};
 use cover_problem::{Answer, Problem};
@@ -85,7 +85,7 @@ fn is_excluded_by_use<W: ReasonWatch>(alloc: Global, problem: &Problem, watch: &
 
 /// Searches the problem for `SHORT` at most, and looks for a reason meanwhile. Returns the answer, or none where
 /// neither came to an end. The only error is out of memory.
-fn searched_shortly<C: Clock>(
+fn search_briefly<C: Clock>(
     clock: &C,
     alloc: Global,
     tables: &Tables<'_>,
@@ -98,7 +98,7 @@ fn searched_shortly<C: Clock>(
     let stopwatch = Stopwatch::new(clock);
     let mut short = ShortWatch { clock, stopwatch };
     let mut looking = LookingWatch::new(clock, alloc, problem, &mut short, EARLY);
-    if let Some(answer) = counted_or_searched(alloc, tables, &mut looking)? {
+    if let Some(answer) = search_counting_first(alloc, tables, &mut looking)? {
         return Ok(Some(answer));
     }
     Ok(looking.answer(problem))
@@ -119,12 +119,12 @@ pub fn answer_until<V: Watch, C: Clock>(
     ensures order { IfOk result (λ found. IfSome found (IsWritable problem.now)) }
 {
     let tables = Tables::build(alloc, problem)?;
-    if let Some(answer) = searched_shortly(clock, alloc, &tables)? {
+    if let Some(answer) = search_briefly(clock, alloc, &tables)? {
         return Ok(Some(answer));
     }
     if is_excluded(alloc, problem, watch) {
         return Ok(Some(Answer::NoCover));
     }
     // (from the start once more: what the short search did is a tenth of a second, little beside what may follow)
-    searched_and_asked(clock, alloc, &tables, watch)
+    search_at_length(clock, alloc, &tables, watch)
 }

@@ -1,5 +1,6 @@
 //! The engines that search in one thread: each reads sources, writes a text to a sink and returns an exit status. What
-//! is read and written is a type parameter, so that the contracts can name the bytes.
+//! is read and written is a type parameter, so that the contracts can name the bytes. Here is also what all engines
+//! share: their faults and statuses, the lines of progress, limits of visits and of time.
 #![tactic(auto)]
 
 mod alone;

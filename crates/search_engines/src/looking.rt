@@ -131,17 +131,17 @@ impl<'a, 'b, V: Watch, C: Clock> LookingWatch<'a, 'b, V, C> {
     }
 
     /// Looks for a reason if it is time to do so. Returns whether there is one.
-    fn finds_reason(&mut self) -> bool {
+    fn look_for_reason(&mut self) -> bool {
         match self.stopwatch.elapsed(self.clock) {
             Some(elapsed) => {
-                elapsed >= Duration::from_millis(self.next) && self.finds_reason_within()
+                elapsed >= Duration::from_millis(self.next) && self.look_for_reason_within()
             }
             None => false,
         }
     }
 
     /// Looks for a reason, for a part of the time that the search has lasted. Returns whether there is one.
-    fn finds_reason_within(&mut self) -> bool {
+    fn look_for_reason_within(&mut self) -> bool {
         let now = self.next;
         self.next = now.max(LATE / 4).saturating_mul(4);
         let mut brief = BriefWatch {
@@ -166,7 +166,7 @@ impl<'a, 'b, V: Watch, C: Clock> Watch for LookingWatch<'a, 'b, V, C> {
     ghost may_stop = { true };
 
     fn look(&mut self, chosen: &[u16], left: u64) -> bool {
-        self.inner.look(chosen, left) || self.finds_reason()
+        self.inner.look(chosen, left) || self.look_for_reason()
     }
 
     #[inline(always)]

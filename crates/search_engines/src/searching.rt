@@ -34,10 +34,10 @@ fn found_answer(
     }
 }
 
-/// Searches with so many visits at most and returns the answer, or why there is none: they were all made, or the watch
-/// stopped it. The only error is out of memory.
+/// Searches until it has counted so many visits, those below a skipped state too, and returns the answer, or why there
+/// is none: it would count more, or the watch stopped it. The only error is out of memory.
 #[tactic(auto, using(crate::proofs::Outcomes::given_by, crate::proofs::Outcomes::given_stopped))]
-fn searched_counting<V: Watch>(
+fn search_counting<V: Watch>(
     alloc: Global,
     tables: &Tables<'_>,
     fuel: u64,
@@ -56,8 +56,8 @@ fn searched_counting<V: Watch>(
     }
 }
 
-/// Searches a problem with so many visits at most and returns the answer, or why there is none: they were all made, or
-/// the watch stopped it. The only error is out of memory.
+/// Searches a problem until it has counted so many visits, those below a skipped state too, and returns the answer, or
+/// why there is none: it would count more, or the watch stopped it. The only error is out of memory.
 pub(crate) fn fueled_answer<V: Watch>(
     alloc: Global,
     problem: &Problem,
@@ -68,12 +68,12 @@ pub(crate) fn fueled_answer<V: Watch>(
     ensures answer { IfOk result (IsGivenIf (V.may_stop ≡ true) problem.now (Some fuel)) }
     ensures order { IfOk result (λ given. IfOk given (IsWritable problem.now)) }
 {
-    searched_counting(alloc, &Tables::build(alloc, problem)?, fuel, watch)
+    search_counting(alloc, &Tables::build(alloc, problem)?, fuel, watch)
 }
 
 /// Searches the problem without counting until it is decided or the watch stops it, and returns the answer, or none
 /// where it was stopped. The trace hears of each step. The only error is out of memory.
-pub(crate) fn searched<V: Watch, T: Trace>(
+pub(crate) fn search_uncounted<V: Watch, T: Trace>(
     alloc: Global,
     tables: &Tables<'_>,
     watch: &mut V,
@@ -95,7 +95,7 @@ pub(crate) fn searched<V: Watch, T: Trace>(
 /// Searches as `alone` does, and once more without counting where the visits are more than can be counted. Returns the
 /// answer, or none where the watch stopped it. The only error is out of memory.
 #[tactic(auto, using(crate::proofs::Outcomes::given_is_first, crate::proofs::Outcomes::time_stops))]
-pub(crate) fn counted_or_searched<V: Watch>(
+pub(crate) fn search_counting_first<V: Watch>(
     alloc: Global,
     tables: &Tables<'_>,
     watch: &mut V,
@@ -104,10 +104,10 @@ pub(crate) fn counted_or_searched<V: Watch>(
         (λ answer. answer ≡ answer_by tables.now (first tables.now []))) }
     ensures order { IfOk result (λ found. IfSome found (IsWritable tables.now)) }
 {
-    match searched_counting(alloc, tables, u64::MAX, watch)? {
+    match search_counting(alloc, tables, u64::MAX, watch)? {
         Ok(answer) => Ok(Some(answer)),
         Err(Unanswered::Time) => Ok(None),
-        Err(_) => searched(alloc, tables, watch, &mut Untraced),
+        Err(_) => search_uncounted(alloc, tables, watch, &mut Untraced),
     }
 }
 
@@ -122,5 +122,5 @@ pub fn search_until<V: Watch>(
         (λ answer. answer ≡ answer_by problem.now (first problem.now []))) }
     ensures order { IfOk result (λ found. IfSome found (IsWritable problem.now)) }
 {
-    counted_or_searched(alloc, &Tables::build(alloc, problem)?, watch)
+    search_counting_first(alloc, &Tables::build(alloc, problem)?, watch)
 }

@@ -83,7 +83,7 @@ impl Pace {
     /// its length and the next: then it gets a fifth of the base, and what was thought of its length is a tenth less
     /// the next time. After a search of more than that fifth was spent, each gets a fifth of the base until one ends
     /// without a cover: what is behind a spent prefix may take as long, at each length.
-    pub fn fuel(&mut self, length: usize, hunger: &Hunger) -> u64
+    pub fn visits(&mut self, length: usize, hunger: &Hunger) -> u64
         ensures { 1 ≤ result }
     {
         // (the empty prefix is the only job at first: until it is split all other workers wait)

@@ -1,4 +1,4 @@
-//! A network in memory, for tests.
+//! A network in memory: for the run of `answer`, and for tests.
 
 ghost use Rattle.std.specs.Prelude.{◌≡◌, ℕ, IfOk};
 ghost use Rattle.site_network.specs.Links.{failed_once};
@@ -27,7 +27,7 @@ impl Wires {
     }
 
     /// Puts a datagram on its way, and returns whether there was such a site, and memory for it.
-    fn is_put<R: Wait>(&self, rt: &R, to: u8, bytes: &[u8]) -> bool {
+    fn put<R: Wait>(&self, rt: &R, to: u8, bytes: &[u8]) -> bool {
         let Some(queue) = self.queues.get(usize::from(to)) else {
             return false;
         };
@@ -73,7 +73,7 @@ impl Link for MemoryLink {
     }
 
     fn send<R: Wait>(&mut self, rt: &R, to: u8, bytes: &[u8]) -> Result<(), LinkFault> {
-        if self.wires.is_put(rt, to, bytes) {
+        if self.wires.put(rt, to, bytes) {
             return Ok(());
         }
         self.failures = self.failures.saturating_add(1);

@@ -67,14 +67,14 @@ impl Status {
         matches!(self, Status::Out(_))
     }
 
-    /// Whether the guest has a result that its owner hasn't judged.
+    /// Whether the guest has a result that its owner hasn't judged. Only tests ask.
     pub fn is_finished(&self) -> bool
         ensures { result ≡ is_finished self.now }
     {
         matches!(self, Status::Finished(_))
     }
 
-    /// Whether the unit's result may come: it is here, a frame, or out.
+    /// Whether the unit's result may come: it is here, a frame, or out. Only tests and tools ask.
     pub fn may_end(&self) -> bool
         ensures { result ≡ may_end self.now }
     {

@@ -47,7 +47,8 @@ impl Ledger {
     /// done with it. The answer says what is accepted or why nothing is. The only error is out of memory, which changes
     /// nothing.
     ///
-    /// It is `judge` and `enter` in one. The cores call these two, and make room for the answer between them.
+    /// It is `judge` and `enter` in one. The cores call these two, and make room for the answer between them; only
+    /// tests call this.
     pub fn receive_return(
         &mut self,
         from: Site,

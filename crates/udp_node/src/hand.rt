@@ -17,20 +17,20 @@ use std::marker::PhantomData;
 pub struct SearchJob<J: Run> {
     pub job: Job,
     pub prefix: Numbers,
-    pub fuel: u64,
+    pub limit: u64,
     pub run: PhantomData<J>,
     pub ghost lawful: { is_prefix J.run.problem prefix ≡ true },
 }
 
 impl<J: Run> SearchJob<J> {
     /// A job whose prefix is to be searched with so many visits.
-    pub fn new(job: Job, prefix: Numbers, fuel: u64) -> SearchJob<J>
+    pub fn new(job: Job, prefix: Numbers, limit: u64) -> SearchJob<J>
         requires { is_prefix J.run.problem prefix ≡ true }
     {
         SearchJob {
             job,
             prefix,
-            fuel,
+            limit,
             run: PhantomData,
         }
     }

@@ -139,8 +139,8 @@ fn receive<J: Run, C: Core + Drop, N: CellName, L: Link, H: Gate + Follower, R: 
 /// Runs the threads of a node to their ends: its workers, one that receives and one that sends. All seats come back,
 /// unless memory ran out at the start: then none does, and no thread has taken a turn.
 ///
-/// This is for who runs one site by itself, over links of its own, as a process for each site would. `run_sites` runs
-/// all sites of a run.
+/// The program calls `run_sites`, which runs all sites of a run. This is for a program that runs one site by itself,
+/// over links of its own; today only tests do.
 pub fn run_node<
     J: Run + Send + Sync,
     C: Core + Drop + Send,
@@ -181,7 +181,7 @@ pub fn run_node<
 /// Runs the threads of the registry to their ends: one that receives and one that sends. The seat comes back, unless
 /// memory ran out at the start: then it doesn't, and no thread has taken a turn.
 ///
-/// As `run_node`, this is for who runs one site by itself.
+/// As `run_node`, this is for a program that runs one site by itself; today only tests do.
 pub fn run_root<
     J: Run + Send + Sync,
     C: Core + Drop + Send,

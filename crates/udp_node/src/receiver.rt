@@ -7,7 +7,7 @@ use crate::actor::Actor;
 use crate::entered_gifts::EnteredGifts;
 use crate::own_time::OwnTime;
 use crate::schedule::Schedule;
-use crate::turns::noted;
+use crate::turns::note_turn;
 use crate::worker::{after, after_refusal};
 use node_core::{Core, Event};
 use packet_wire::{Body, LONGEST_PACKET, Packet, WireFault, read_packet};
@@ -69,10 +69,14 @@ impl<L: Link> Receiver<L> {
         (self.dropped, self.link.failures())
     }
 
-    /// Receives once, and passes strangers' datagrams over, which a link brings without their bytes. Nothing comes of
-    /// them but that they are counted: else a flood of them could use up the turns of the site, or keep it from what it
-    /// does by itself.
-    fn received<R: Wait>(&mut self, rt: &R, buffer: &mut [u8]) -> Result<Option<usize>, LinkFault>
+    /// Receives until something else came than a stranger's datagram, which a link brings without its bytes, or nothing
+    /// did, `FLOOD` times at most. Nothing comes of strangers' datagrams but that they are counted: else a flood of
+    /// them could use up the turns of the site, or keep it from what it does by itself.
+    fn receive_past_strangers<R: Wait>(
+        &mut self,
+        rt: &R,
+        buffer: &mut [u8],
+    ) -> Result<Option<usize>, LinkFault>
         ensures { IfOk result (λ came. IfSome came (λ bytes. bytes ≤ length buffer.old)) }
     {
         for _ in 0..FLOOD {
@@ -157,7 +161,7 @@ impl<
                 break;
             }
             let turn = self.turn();
-            if let Some(cause) = noted(self.rt, limits, turn) {
+            if let Some(cause) = note_turn(self.rt, limits, turn) {
                 return cause;
             }
         }
@@ -211,7 +215,7 @@ impl<
     fn receive(&mut self) -> Turn {
         let ending = self.actor.shared.cause_once_drained(self.rt);
         let mut buffer = [0; BUFFER];
-        let received = self.receiver.received(self.rt, &mut buffer);
+        let received = self.receiver.receive_past_strangers(self.rt, &mut buffer);
         let is_empty = received == Ok(None);
         let turn = match received {
             Ok(Some(bytes)) => self.hear(&buffer[..bytes]),

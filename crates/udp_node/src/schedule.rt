@@ -11,7 +11,7 @@ const MILLI: u64 = 1_000;
 
 /// How many times longer a site lasts that no incarnation follows: four seconds for each turn in place of four
 /// milliseconds. Chosen, not measured.
-const LAST: u64 = 1_000;
+const LAST_FACTOR: u64 = 1_000;
 
 /// How long after one another the registry announces the end, once the search is over, in microseconds.
 const END_PAUSE: u64 = 100;
@@ -30,13 +30,13 @@ const GRACE: u64 = 1_000_000;
 pub struct Schedule {
     timing: Timing,
     /// When the site's time is over.
-    lasts: u64,
+    end_of_time: u64,
     /// When the registry is greeted next.
-    greeting: u64,
+    next_greeting: u64,
     /// When a packet came last that shows the run going on.
-    heard: u64,
+    last_heard: u64,
     /// When what may be lost is said again next.
-    again: u64,
+    next_repeat: u64,
     /// How long after that the next time is.
     pause: u64,
     /// How much that may be lost was said by the last look.
@@ -44,7 +44,7 @@ pub struct Schedule {
     /// How often the end is still to be announced, once the search is over.
     announcements_left: Option<u64>,
     /// When the site was seen to be about to end first.
-    ending: Option<u64>,
+    ending_since: Option<u64>,
 }
 
 impl Schedule {
@@ -55,43 +55,43 @@ impl Schedule {
         let pause = timing.again.saturating_mul(MILLI);
         Schedule {
             timing,
-            lasts: if is_last {
-                lasts.saturating_mul(LAST)
+            end_of_time: if is_last {
+                lasts.saturating_mul(LAST_FACTOR)
             } else {
                 lasts
             },
-            greeting: 0,
-            heard: 0,
-            again: pause,
+            next_greeting: 0,
+            last_heard: 0,
+            next_repeat: pause,
             pause,
             said: 0,
             announcements_left: None,
-            ending: None,
+            ending_since: None,
         }
     }
 
     /// Whether the site's time is over.
     pub fn is_spent(&self, now: u64) -> bool {
-        now >= self.lasts
+        now >= self.end_of_time
     }
 
     /// Answers whether the registry is to be greeted now. It counts as greeted then.
     pub fn greet_if_due(&mut self, now: u64) -> bool {
-        if now < self.greeting {
+        if now < self.next_greeting {
             return false;
         }
-        self.greeting = now.saturating_add(self.timing.greeting.saturating_mul(MILLI));
+        self.next_greeting = now.saturating_add(self.timing.greeting.saturating_mul(MILLI));
         true
     }
 
     /// A packet came that shows the run going on.
     pub fn hear(&mut self, now: u64) {
-        self.heard = now;
+        self.last_heard = now;
     }
 
     /// Whether none came for long.
     pub fn is_silent(&self, now: u64) -> bool {
-        now.saturating_sub(self.heard) >= self.timing.silence.saturating_mul(MILLI)
+        now.saturating_sub(self.last_heard) >= self.timing.silence.saturating_mul(MILLI)
     }
 
     /// Answers whether what may be lost is to be said again now, where so much was said in all. It counts as said again
@@ -103,13 +103,13 @@ impl Schedule {
         if said != self.said {
             self.said = said;
             self.pause = self.timing.again.saturating_mul(MILLI);
-            self.again = self.again.min(now.saturating_add(self.pause));
+            self.next_repeat = self.next_repeat.min(now.saturating_add(self.pause));
         }
-        if now < self.again {
+        if now < self.next_repeat {
             return false;
         }
         self.pause = self.next_pause();
-        self.again = now.saturating_add(self.pause);
+        self.next_repeat = now.saturating_add(self.pause);
         self.announcements_left = self.announcements_left.map(|left| left.saturating_sub(1));
         true
     }
@@ -126,7 +126,7 @@ impl Schedule {
     /// The search is over: from now on the end is announced.
     pub fn end(&mut self, now: u64) {
         self.announcements_left = Some(END_AGAINS);
-        self.again = now.saturating_add(END_PAUSE);
+        self.next_repeat = now.saturating_add(END_PAUSE);
     }
 
     /// Whether that is so.
@@ -142,7 +142,7 @@ impl Schedule {
     /// Answers whether a site that is to end ends now: where its receive was empty, or packets came for long since it
     /// was first asked.
     pub fn end_if_quiet(&mut self, now: u64, is_empty: bool) -> bool {
-        let seen = *self.ending.get_or_insert(now);
+        let seen = *self.ending_since.get_or_insert(now);
         is_empty || now.saturating_sub(seen) >= GRACE
     }
 }

@@ -48,7 +48,7 @@ pub struct Signals {
     /// Where the thread that sends waits.
     sender: Parker,
     /// Where each worker waits that leaves all jobs to another, or found nothing to do.
-    spared: [Parker; WORKERS],
+    workers: [Parker; WORKERS],
 }
 
 impl Signals {
@@ -66,7 +66,7 @@ impl Signals {
             said: AtomicU64::new(0),
             stopped: AtomicBool::new(false),
             sender: Parker::new(),
-            spared: [
+            workers: [
                 Parker::new(),
                 Parker::new(),
                 Parker::new(),
@@ -194,21 +194,21 @@ impl Signals {
 
     /// Waits, in a worker that leaves all jobs to another, until it is roused: there is work for it again, or the site
     /// is to end.
-    pub fn spare<R: Wait>(&self, rt: &R, worker: u8) {
-        self.idle(rt, worker, Duration::from_secs(DOZE));
+    pub fn wait_spared<R: Wait>(&self, rt: &R, worker: u8) {
+        self.wait_idle(rt, worker, Duration::from_secs(DOZE));
     }
 
     /// Waits so long, in a worker that found nothing to do, or until it is roused: at the end of the site none is
     /// waited for.
-    pub fn idle<R: Wait>(&self, rt: &R, worker: u8, nap: Duration) {
-        if let Some(parker) = self.spared.get(usize::from(worker)) {
+    pub fn wait_idle<R: Wait>(&self, rt: &R, worker: u8, nap: Duration) {
+        if let Some(parker) = self.workers.get(usize::from(worker)) {
             parker.park_timeout(rt, nap);
         }
     }
 
     /// Rouses the workers that wait.
     fn rouse_workers(&self) {
-        for parker in &self.spared {
+        for parker in &self.workers {
             parker.unpark();
         }
     }

@@ -10,7 +10,7 @@ const SHORTAGE: u64 = 1;
 
 /// Counts a turn, and waits a little if memory ran out, so that others may give some back. Returns the cause if the
 /// thread ends by it.
-pub fn noted<R: Wait + Clock>(rt: &R, limits: &mut Limits, turn: Turn) -> Option<EndCause> {
+pub fn note_turn<R: Wait + Clock>(rt: &R, limits: &mut Limits, turn: Turn) -> Option<EndCause> {
     if turn == Turn::Starved {
         thread::sleep(rt, Duration::from_millis(SHORTAGE));
     }

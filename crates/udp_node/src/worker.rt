@@ -12,7 +12,7 @@ use crate::idleness::{IdleTurn, Idleness};
 use crate::looks::Looks;
 use crate::savings::{Savings, Shown};
 use crate::seat_receipts::Refused;
-use crate::turns::noted;
+use crate::turns::note_turn;
 use brancher::{Finding, Outcome, Searcher, TABLE_BYTES};
 use cover_problem::Numbers;
 use node_core::{ActFault, Core, Event, Reply};
@@ -56,7 +56,7 @@ pub struct Worker<
     idleness: Idleness,
     looks: Looks,
     savings: Savings,
-    /// How many visits the last search might make.
+    /// How many visits `Pace` gave the last search; where states are kept, its quota may be more.
     limit: u64,
     number: u8,
     ghost same: { searcher.problem ≡ J.run.problem },
@@ -107,7 +107,7 @@ impl<'r, 't, 's, J: Run, C: Core + Drop, N: CellName, H: Gate + Follower, R: Wai
                 break;
             }
             let turn = self.turn();
-            if let Some(cause) = noted(self.rt, limits, turn) {
+            if let Some(cause) = note_turn(self.rt, limits, turn) {
                 return cause;
             }
         }
@@ -122,7 +122,7 @@ impl<'r, 't, 's, J: Run, C: Core + Drop, N: CellName, H: Gate + Follower, R: Wai
         match mem::replace(&mut self.hand, Hand::Nothing) {
             // (only with nothing in hand: a job that was taken up is known to no other worker)
             Hand::Nothing if self.actor.shared.signals.is_spared(self.number) => {
-                self.actor.shared.signals.spare(self.rt, self.number);
+                self.actor.shared.signals.wait_spared(self.rt, self.number);
                 Turn::Waited
             }
             Hand::Nothing => self.take(),
@@ -144,11 +144,11 @@ impl<'r, 't, 's, J: Run, C: Core + Drop, N: CellName, H: Gate + Follower, R: Wai
         match taken {
             Reply::Taken(job, prefix) => {
                 self.idleness.end();
-                let fuel = self.pace.fuel(
+                let limit = self.pace.visits(
                     prefix.as_slice().len(),
                     self.actor.shared.signals.hunger(),
                 );
-                self.search(SearchJob::new(job, prefix, fuel))
+                self.search(SearchJob::new(job, prefix, limit))
             }
             Reply::Ripe(unit) => {
                 self.idleness.end();
@@ -172,7 +172,10 @@ impl<'r, 't, 's, J: Run, C: Core + Drop, N: CellName, H: Gate + Follower, R: Wai
                 after(self.actor.act(self.rt, Event::Ask(victim)))
             }
             IdleTurn::Waits(nap) => {
-                self.actor.shared.signals.idle(self.rt, self.number, nap);
+                self.actor
+                    .shared
+                    .signals
+                    .wait_idle(self.rt, self.number, nap);
                 Turn::Waited
             }
             IdleTurn::Passes => Turn::Waited,
@@ -195,28 +198,28 @@ impl<'r, 't, 's, J: Run, C: Core + Drop, N: CellName, H: Gate + Follower, R: Wai
         let SearchJob {
             job,
             prefix,
-            fuel,
+            limit,
             run,
         } = search_job;
-        // (a finding has a fuel of at least 1, which no type says of the job's)
-        self.limit = fuel.max(1);
+        // (a finding has a fuel of at least 1, which no type says of the job's limit)
+        self.limit = limit.max(1);
         let keeps = self.searcher.keeps();
-        let most = search_fuel(keeps, self.limit);
+        let fuel = search_fuel(keeps, self.limit);
         let (hooks, signals) = (self.actor.shared.context.hooks, self.actor.shared.signals);
         self.keep_shared();
         hooks.begun();
         let length = prefix.as_slice().len();
         let quota = self.pace.quota(length, self.limit);
-        let mut watch = SearchWatch::new(signals.stop_flag(), hooks, length, most, quota);
+        let mut watch = SearchWatch::new(signals.stop_flag(), hooks, length, fuel, quota);
         match self
             .searcher
-            .find_so_far(prefix.into_vec(), most, &mut watch)
+            .find_so_far(prefix.into_vec(), fuel, &mut watch)
         {
             Ok(Some((finding, count))) if !watch.is_called_off() => {
                 let made = watch.made_visits();
                 hooks.searched(&finding, made);
                 if keeps {
-                    self.share(&watch);
+                    self.choose_alone_or_together(&watch);
                     self.tell_if_barren(&finding, count);
                 }
                 self.pace.note(length, finding.outcome(), made);
@@ -279,9 +282,9 @@ impl<'r, 't, 's, J: Run, C: Core + Drop, N: CellName, H: Gate + Follower, R: Wai
         }
     }
 
-    /// Leaves the node's other workers something to do or not, by what the states saved: where they save very much,
-    /// each other worker would find the same states once more, and all would take longer than one does.
-    fn share(&mut self, watch: &SearchWatch<'_, H>) {
+    /// Works alone or together with the node's other workers, by what the states saved: where they save very much, each
+    /// other worker would find the same states once more, and all would take longer than one does.
+    fn choose_alone_or_together(&mut self, watch: &SearchWatch<'_, H>) {
         let signals = self.actor.shared.signals;
         match self.savings.note(watch.made_visits(), watch.gone()) {
             Shown::Much => signals.work_alone(self.number),
@@ -313,29 +316,29 @@ impl<'r, 't, 's, J: Run, C: Core + Drop, N: CellName, H: Gate + Follower, R: Wai
             }
             Err(back) => {
                 let (event, refused) = back;
-                self.keep(event, refused)
+                self.after_refused_post(event, refused)
             }
         }
     }
 
-    /// A job is to be searched again, with sixteen times the fuel.
+    /// A job is to be searched again, with sixteen times the visits.
     fn search_again(&mut self, job: Job, finding: &Finding) -> Turn
         requires { is_prefix J.run.problem finding.now.prefix ≡ true }
     {
         match Vec::from_slice(self.actor.shared.context.alloc, finding.prefix()) {
             Ok(prefix) => {
-                let fuel = self.limit.saturating_mul(16);
+                let limit = self.limit.saturating_mul(16);
                 let prefix = Numbers::from_vec(prefix);
-                self.hand = Hand::Search(SearchJob::new(job, prefix, fuel));
+                self.hand = Hand::Search(SearchJob::new(job, prefix, limit));
                 Turn::Used
             }
             Err(_) => Turn::Ended(EndCause::Memory),
         }
     }
 
-    /// What a refused Post leaves in hand: it is posted again where memory ran out, and searched again, with sixteen
-    /// times the fuel, where no names are left for its children.
-    fn keep(&mut self, event: Event, refused: Refused) -> Turn
+    /// Takes a refused Post in hand: it is posted again where memory ran out, and searched again, with sixteen times
+    /// the visits, where no names are left for its children.
+    fn after_refused_post(&mut self, event: Event, refused: Refused) -> Turn
         requires { IsPosted J.run.problem event }
     {
         match (event, refused) {

@@ -81,7 +81,7 @@ pub fn with_room(
 /// They are found by matchings of primary items with secondary ones: where lessons need each period of a class, no
 /// cover leaves one out. Where none are found there may be such items. It takes memory of the order of the problem, and
 /// a bit for each primary item and each item beside it; and a tenth of a second or so at most. The only error is out of
-/// memory.
+/// memory. The program calls `with_used_items_until`.
 pub fn with_used_items(
     alloc: Global,
     problem: &Problem,

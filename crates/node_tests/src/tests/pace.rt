@@ -104,7 +104,7 @@ fn is_answered(pace: &mut Pace, step: Step) -> bool {
         Asks(length, is_hungry, visits) => {
             let hunger = Hunger::new();
             hunger.starve(u64::from(is_hungry));
-            pace.fuel(length, &hunger) == visits
+            pace.visits(length, &hunger) == visits
         }
         Ends(length, outcome, visits) => {
             pace.note(length, outcome, visits);

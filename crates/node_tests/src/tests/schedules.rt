@@ -298,7 +298,7 @@ fn a_spared_worker_is_roused(rt: HostRuntime) -> Result<(), Fail> {
     signals.work_together(0);
     assert!(rt; !signals.is_spared(1));
     let begun = Instant::now(&rt)?;
-    signals.spare(&rt, 1);
+    signals.wait_spared(&rt, 1);
     assert!(rt; begun.elapsed(&rt)? < Duration::from_secs(30));
     Ok(())
 }
@@ -309,7 +309,7 @@ fn an_idle_worker_is_roused_at_the_end(rt: HostRuntime) -> Result<(), Fail> {
     let signals = Signals::new(2, true);
     signals.stop();
     let begun = Instant::now(&rt)?;
-    signals.idle(&rt, 1, Duration::from_secs(40));
+    signals.wait_idle(&rt, 1, Duration::from_secs(40));
     assert!(rt; begun.elapsed(&rt)? < Duration::from_secs(30));
     Ok(())
 }

@@ -1,6 +1,6 @@
 use Rattle.reason_engine.specs.declared.cause.Cause.TheVariants as causes
 use Rattle.answer_engine.proofs.Firsts.{cause_is_won}
-use Rattle.answer_engine.proofs.heard_lanes.excluded_aloud.Goals as goal
+use Rattle.answer_engine.proofs.heard_lanes.find_reason_heard.Goals as goal
 
 pub returns-in-Ok-Some : goal.returns-in-Ok-Some
 returns-in-Ok-Some g c =
