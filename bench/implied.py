@@ -86,7 +86,9 @@ def main() -> int:
     words.add_argument("--kind", choices=sorted(KINDS), action="append", help="only this kind; may be given several times")
     words.add_argument("--write", metavar="FOLDER", help="where the problems are written, and nothing is run")
     given = words.parse_args()
-    if not given.write:
+    if given.write:
+        os.makedirs(given.write, exist_ok=True)
+    else:
         want_program(SOLVE_CLI)
         print("| Instance | why | alone | learn | answer | clasp | CaDiCaL | HiGHS |\n|---|---|---|---|---|---|---|---|")
     with tempfile.TemporaryDirectory() as folder:
