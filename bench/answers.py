@@ -8,7 +8,7 @@ The files are those of instances.py, two of each kind of learning.py, and any th
 where a command had no answer in time; the last column says how many times as long as the best of the others `answer` took. The line below the table has the
 geometric mean of these, over the files on which the best took more than a tenth of a second, and the greatest; and by how many milliseconds `answer` was
 slower than `alone` on the others that it decides in a tenth of a second, in the mean and at most. A cover and a `none` for one file are a mistake. All
-run on so many processors, as far as there are so many, where a number is given: on one the two lanes of `answer` take turns.
+run on so many processors, as far as there are so many, where a number is given: on one the lanes of `answer` take turns.
 
 With --peers `answer` is beside other programs in place of our own commands, all by wall time: clasp behind gringo with one thread and with four, CaDiCaL,
 HiGHS, which reads no colours, and Gecode, if its library is there (Debian's libgecode-dev), by the model of gecode.cpp. The line below the table says

@@ -5,7 +5,8 @@
 
 Each instance that is named, or each of all, is given to `solve_cli why`, `solve_cli alone --unlimited` and `scripts/zarfepoch why-none`. Each has N
 seconds (default 60); a dash stands where it didn't end. The table has the reason, how many items have a number in it, and the
-least processor seconds of each, but of `alone` the least wall seconds, since it looks for a reason after a tenth of a second by the clock.
+least processor seconds of each, but of `alone` the least wall seconds, since it looks for a reason 10 and 100 milliseconds after its start, and
+later by multipliers, all by the clock.
 Each reason is added up by `scripts/zarfepoch check-reason`.
 
 It wants the program: (cd crates/solve_cli && rt run -- --version) builds it. The exit status is 0, 1 where a reason doesn't hold or two
