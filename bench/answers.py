@@ -3,19 +3,23 @@
 
     python3 bench/answers.py [--seconds N] [--times N] [--processors N] [--peers] [FILE ..]
 
-The files are those of instances.py, two of each kind of learning.py, and any that are named. On each the least wall time of N runs (default 3) is taken of
-`answer`, `alone`, `alone --unlimited`, `learn` and `solve --nodes 1 --workers 4`, each for N seconds at most (default 10). Each file has a row, with a dash
-where a command had no answer in time; the last column says how many times as long as the best of the others `answer` took. The line below the table has the
-geometric mean of these, over the files on which the best took more than a tenth of a second, and the greatest; and by how many milliseconds `answer` was
-slower than `alone` on the others that it decides in a tenth of a second, in the mean and at most. A cover and a `none` for one file are a mistake. All
-run on so many processors, as far as there are so many, where a number is given: on one the lanes of `answer` take turns.
+The files are those of instances.py, two of each kind of learning.py, and any that are named. On each the least wall
+time of N runs (default 3) is taken of `answer`, `alone`, `alone --unlimited`, `learn` and
+`solve --nodes 1 --workers 4`, each for N seconds at most (default 10). Each file has a row, with a dash where a command
+had no answer in time; the last column says how many times as long as the best of the others `answer` took. The line
+below the table has the geometric mean of these, over the files on which the best took more than a tenth of a second,
+and the greatest; and by how many milliseconds `answer` was slower than `alone` on the others that it decides in a tenth
+of a second, in the mean and at most. A cover and a `none` for one file are a mistake. All run on so many processors, as
+far as there are so many, where a number is given: on one the lanes of `answer` take turns.
 
-With --peers `answer` is beside other programs in place of our own commands, all by wall time: clasp behind gringo with one thread and with four, CaDiCaL,
-HiGHS, which reads no colours, and Gecode, if its library is there (Debian's libgecode-dev), by the model of gecode.cpp. The line below the table says
-how many files each answered, and on how many it was first.
+With --peers `answer` is beside other programs in place of our own commands, all by wall time: clasp behind gringo with
+one thread and with four, CaDiCaL, HiGHS, which reads no colours, and Gecode, if its library is there (Debian's
+libgecode-dev), by the model of gecode.cpp. The line below the table says how many files each answered, and on how many
+it was first.
 
-It wants the program: (cd crates/solve_cli && rt run -- --version) builds it; --peers wants gringo, clasp, cadical and SciPy, and g++ for Gecode. The exit status is 0, 1 where
-two answers differ, 2 for a mistake on the command line or where there is no program.
+It wants the program: (cd crates/solve_cli && rt run -- --version) builds it; --peers wants gringo, clasp, cadical and
+SciPy, and g++ for Gecode. The exit status is 0, 1 where two answers differ, 2 for a mistake on the command line or
+where there is no program.
 """
 from __future__ import annotations
 

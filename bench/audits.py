@@ -3,13 +3,13 @@
 
     python3 bench/audits.py
 
-Four and sixteen nodes of one worker search queens on a torus over links in memory, one visit a search, so that their books grow long:
-boards of 10, 12 and 14 rows give some 10,000, 100,000 and 1,000,000 entries. The table has the number of books and of entries, the seconds of
-the audit, the megabytes of the run with its books, and those that the audit adds: the greatest memory of a run with an audit less
-that of one without.
+Four and sixteen nodes of one worker search queens on a torus over links in memory, one visit a search, so that their
+books grow long: boards of 10, 12 and 14 rows give some 10,000, 100,000 and 1,000,000 entries. The table has the number
+of books and of entries, the seconds of the audit, the megabytes of the run with its books, and those that the audit
+adds: the greatest memory of a run with an audit less that of one without.
 
-It wants the program: (cd crates/workbench && rt run) builds it. The exit status is 0, 1 where an audit is unclean, or 2 for a
-mistake on the command line or where the program is missing.
+It wants the program: (cd crates/workbench && rt run) builds it. The exit status is 0, 1 where an audit is unclean, or 2
+for a mistake on the command line or where the program is missing.
 """
 from __future__ import annotations
 

@@ -4,16 +4,17 @@
     python3 bench/books.py [NAME ..]
     python3 bench/books.py --long
 
-Sites with threads search each instance that is named, or four of them, over links in memory. The table says how long the run
-took, how many processors it used on average from its start to its end, the visits that were made by searches which were spent
-(those are made again) as a part of the visits that a plain search makes, how many searches were posted, the entries of the
-fullest book, how many names a node used at most, and how many turns a thread took that took the most.
+Sites with threads search each instance that is named, or four of them, over links in memory. The table says how long
+the run took, how many processors it used on average from its start to its end, the visits that were made by searches
+which were spent (those are made again) as a part of the visits that a plain search makes, how many searches were
+posted, the entries of the fullest book, how many names a node used at most, and how many turns a thread took that took
+the most.
 
-`--long` lets one node of four workers search Langford pairs of 13 behind choices that make the work 960 times as much, which
-takes some fifteen minutes on four processors, and prints a line each minute: how many processors were used in it.
+`--long` lets one node of four workers search Langford pairs of 13 behind choices that make the work 960 times as much,
+which takes some fifteen minutes on four processors, and prints a line each minute: how many processors were used in it.
 
-It wants gcc, and the program: (cd crates/workbench && rt run) builds it. The exit status is 0, or 2 for a mistake on the command
-line or where one of these is missing.
+It wants gcc, and the program: (cd crates/workbench && rt run) builds it. The exit status is 0, or 2 for a mistake on
+the command line or where one of these is missing.
 """
 from __future__ import annotations
 
@@ -63,8 +64,8 @@ def watch(process: subprocess.Popen[str]) -> None:
 
 
 def run(file: str, nodes: int, workers: int, is_watched: bool = False) -> Ran:
-    """The seconds of a run, those of processors, whether an answer was published, what each site tells of its end (losses,
-    turns), and the entries, searches, lost visits and names of each book."""
+    """The seconds of a run, those of processors, whether an answer was published, what each site tells of its end
+    (losses, turns), and the entries, searches, lost visits and names of each book."""
     start, before = time.monotonic(), spent()
     words = [WORKBENCH, "tally", file, str(nodes), str(workers), "1", "1000", "1000000"]
     with subprocess.Popen(words, stdout=subprocess.PIPE, text=True) as process:

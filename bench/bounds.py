@@ -3,8 +3,8 @@
 
     python3 bench/bounds.py [NAME ..]
 
-Each bound is one on a ratio of two figures that are measured here, or on the memory of an entry, so it is the same on all machines. Those that are
-named, or all, are measured:
+Each bound is one on a ratio of two figures that are measured here, or on the memory of an entry, so it is the same on
+all machines. Those that are named, or all, are measured:
 
 - `audit-length`: with which power of the entries the seconds of an audit grow, between some 8,000 and 70,000 of them: it finds packets by an index;
 - `audit-books`: the seconds of an audit for each of some 10,000 entries of 17 books, to those of five: it follows the books that wait for
@@ -16,11 +16,12 @@ named, or all, are measured:
 - `late-seconds`: how many seconds after the one that it has `alone --unlimited` ends, on files of the most items and options that a search doesn't decide:
   the search for a reason is ended, too.
 
-The least of five audits counts, and all of five runs. Seconds of audits are by the clock: on a busy machine they may be beyond a bound where
-nothing is wrong.
+The least of five audits counts, and all of five runs. Seconds of audits are by the clock: on a busy machine they may be
+beyond a bound where nothing is wrong.
 
-It wants the programs: (cd crates/workbench && rt run) and (cd crates/solve_cli && rt run -- --version) build them. The exit status is 0, 1 where a figure is beyond its bound or an answer
-is wrong, 2 for a mistake on the command line or where a program is missing.
+It wants the programs: (cd crates/workbench && rt run) and (cd crates/solve_cli && rt run -- --version) build them. The
+exit status is 0, 1 where a figure is beyond its bound or an answer is wrong, 2 for a mistake on the command line or
+where a program is missing.
 """
 from __future__ import annotations
 

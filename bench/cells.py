@@ -3,12 +3,12 @@
 
     python3 bench/cells.py
 
-A cell is a core with its history under one lock. One, two, four and eight threads greet at one cell, a million times together;
-beside it one thread lets a core without a lock and history do the same. Each is run three times, by turns; the least time that
-passed counts. The figures mean something where nothing else runs.
+A cell is a core with its history under one lock. One, two, four and eight threads greet at one cell, a million times
+together; beside it one thread lets a core without a lock and history do the same. Each is run three times, by turns;
+the least time that passed counts. The figures mean something where nothing else runs.
 
-It wants the program: (cd crates/workbench && rt run) builds it. The exit status is 0, or 2 for a mistake on the command line or
-where there is no program.
+It wants the program: (cd crates/workbench && rt run) builds it. The exit status is 0, or 2 for a mistake on the command
+line or where there is no program.
 """
 from __future__ import annotations
 

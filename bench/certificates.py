@@ -3,13 +3,14 @@
 
     python3 bench/certificates.py [--times N] [--checker PROGRAM] [NAME ..]
 
-Each instance that is named, or each of some without a cover, is answered by `alone --unlimited` with and without --certificate, and by `learn`
-with and without; both certificates are checked by `check`, by scripts/zarfepoch check-certificate, and by PROGRAM, which gets the same two files and
-ends with status 0. The least user and system time of a process counts, in seconds; those that have no answer in a minute have a dash. Lines are
-those of the certificate, beside its size as it is and by gzip.
+Each instance that is named, or each of some without a cover, is answered by `alone --unlimited` with and without
+--certificate, and by `learn` with and without; both certificates are checked by `check`, by scripts/zarfepoch
+check-certificate, and by PROGRAM, which gets the same two files and ends with status 0. The least user and system time
+of a process counts, in seconds; those that have no answer in a minute have a dash. Lines are those of the certificate,
+beside its size as it is and by gzip.
 
-It wants the program: (cd crates/solve_cli && rt run -- --version) builds it. The exit status is 0, 1 where a certificate is refused, 2 for a
-mistake on the command line or where there is no program.
+It wants the program: (cd crates/solve_cli && rt run -- --version) builds it. The exit status is 0, 1 where a
+certificate is refused, 2 for a mistake on the command line or where there is no program.
 """
 from __future__ import annotations
 
@@ -32,7 +33,8 @@ SECONDS = 60
 
 
 def least(words: list[str], status: int, times: int) -> str:
-    """The least time of a process that has to end with this status, as text; a dash where it took longer than a minute."""
+    """The least time of a process that has to end with this status, as text; a dash where it took longer than a
+    minute."""
     runs = []
     for _ in range(times):
         ran = run(words, seconds=SECONDS)

@@ -3,14 +3,14 @@
 
     python3 bench/cores.py
 
-`cycle` is a steal from the first packet to the last: eight events and four packets, a thousand and ten thousand times over;
-each leaves one guest more in the node's table. `share-1`, `share-2` and `share-8` are a Steal and the Give of so many children
-to a node that begins, and a redo of each child. The others are packets that are delivered, a million times each. Beside each, a
-plain loop only copies the same packets. Both run by turns, three times each, and the least processor time of the whole
-process counts, user and system.
+`cycle` is a steal from the first packet to the last: eight events and four packets, a thousand and ten thousand times
+over; each leaves one guest more in the node's table. `share-1`, `share-2` and `share-8` are a Steal and the Give of so
+many children to a node that begins, and a redo of each child. The others are packets that are delivered, a million
+times each. Beside each, a plain loop only copies the same packets. Both run by turns, three times each, and the least
+processor time of the whole process counts, user and system.
 
-It wants the program: (cd crates/workbench && rt run) builds it. The exit status is 0, or 2 for a mistake on the command line or
-where there is no program.
+It wants the program: (cd crates/workbench && rt run) builds it. The exit status is 0, or 2 for a mistake on the command
+line or where there is no program.
 """
 from __future__ import annotations
 

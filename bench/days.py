@@ -3,15 +3,17 @@
 
     python3 bench/days.py [--seconds N] [--pairs N] [NODESxWORKERS ..]
 
-Langford pairs of so many numbers (default 17, which have no pairing, and take longer than anybody waits) are searched for so many seconds (default
+Langford pairs of so many numbers (default 17, which have no pairing, and take longer than anybody waits) are searched
+for so many seconds (default
 600) by each number of nodes and workers (default 4x2, 16x8 and 4x1). Of each run a row has, at its end: the datagrams a second that the machine
-received by UDP in the second half; how often a second a thread of the run was woken in it (its voluntary changes of context); how many entries the
-fullest book has, and how many it got in each hour of the second half; how much memory the run has, and how much more of it in each hour of that half;
-and, by these, how many hours it takes until a book of the default, a million entries, is full. The entries come from the lines of progress, which
-have them in percents of the book. So the runs have books of 200,000 entries, and these figures steps of two thousand.
+received by UDP in the second half; how often a second a thread of the run was woken in it (its voluntary changes of
+context); how many entries the fullest book has, and how many it got in each hour of the second half; how much memory
+the run has, and how much more of it in each hour of that half; and, by these, how many hours it takes until a book of
+the default, a million entries, is full. The entries come from the lines of progress, which have them in percents of the
+book. So the runs have books of 200,000 entries, and these figures steps of two thousand.
 
-Nothing else should use UDP meanwhile. It wants the program: (cd crates/solve_cli && rt run -- --version) builds it. The exit status is 0, or 2 for a
-mistake on the command line or where there is no program.
+Nothing else should use UDP meanwhile. It wants the program: (cd crates/solve_cli && rt run -- --version) builds it. The
+exit status is 0, or 2 for a mistake on the command line or where there is no program.
 """
 from __future__ import annotations
 

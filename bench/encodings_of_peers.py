@@ -1,8 +1,9 @@
 """Problems as clingo and CaDiCaL read them. For states.py.
 
-Both need an option with each primary item. clingo counts; CaDiCaL gets clauses: of an item's options, or of a secondary item's colours and its
-options without one, no two hold. Of up to `PAIRS` of them each pair has a clause; of more each has a variable that says whether one up to it
-holds (Carsten Sinz, Towards an Optimal CNF Encoding of Boolean Cardinality Constraints, 2005).
+Both need an option with each primary item. clingo counts; CaDiCaL gets clauses: of an item's options, or of a secondary
+item's colours and its options without one, no two hold. Of up to `PAIRS` of them each pair has a clause; of more each
+has a variable that says whether one up to it holds (Carsten Sinz, Towards an Optimal CNF Encoding of Boolean
+Cardinality Constraints, 2005).
 """
 from __future__ import annotations
 
@@ -14,7 +15,8 @@ Clause = tuple[int, ...]
 
 
 class Problem(NamedTuple):
-    """The primary items, the secondary ones, and of each option its items with their colours, which are empty where there is none."""
+    """The primary items, the secondary ones, and of each option its items with their colours, which are empty where
+    there is none."""
     primary: list[str]
     secondary: list[str]
     options: list[list[tuple[str, str]]]
@@ -33,7 +35,8 @@ def read(file: str) -> Problem:
 
 
 def program_of(file: str) -> Iterator[str]:
-    """The problem for clingo: each primary item by one option, each secondary one by at most one or by several of one colour."""
+    """The problem for clingo: each primary item by one option, each secondary one by at most one or by several of one
+    colour."""
     problem = read(file)
     number = {name: place for place, name in enumerate([*problem.primary, *problem.secondary])}
     yield "{x(O) : o(O)}. :- i(I), #count{O : x(O), u(O,I)} != 1. :- s(I), x(O), x(P), O < P, c(O,I,A), c(P,I,B), A != B. "

@@ -1,14 +1,15 @@
 #!/usr/bin/env python3
-"""Times the end of runs of `solve`: from the first packet Over that a site sends, which says that the answer is published, to the end of the process.
+"""Times the end of runs of `solve`: from the first packet Over that a site sends, which says that the answer is
+published, to the end of the process.
 
     python3 bench/ends.py [--times N] [--file FILE] [NODESxWORKERS ..]
 
-FILE (default examples/pentominoes-6x10.dlx) is solved N times (default 30) by so many nodes and workers (default 1x4 4x2 16x8). A row has the least, the
-median and the greatest milliseconds of these ends, and the median of whole runs. `first_over.c`, which is built here and loaded before the C library,
-notes when the packet is sent.
+FILE (default examples/pentominoes-6x10.dlx) is solved N times (default 30) by so many nodes and workers (default 1x4
+4x2 16x8). A row has the least, the median and the greatest milliseconds of these ends, and the median of whole runs.
+`first_over.c`, which is built here and loaded before the C library, notes when the packet is sent.
 
-It wants cc and the program: (cd crates/solve_cli && rt run -- --version) builds it. The exit status is 0, 1 where a run had no answer, 2 for a mistake on
-the command line or where something is missing.
+It wants cc and the program: (cd crates/solve_cli && rt run -- --version) builds it. The exit status is 0, 1 where a run
+had no answer, 2 for a mistake on the command line or where something is missing.
 """
 from __future__ import annotations
 

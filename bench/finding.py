@@ -3,13 +3,14 @@
 
     python3 bench/finding.py [--seeds N] [--seconds N] [--kind KIND ..]
 
-Each instance has a cover. `quasigroup` is a square of 30 rows, columns and numbers, of which 325 cells are empty; `timetable` a full timetable of five
-classes with 30 periods: each class has a lesson in each period, and lessons with one teacher aren't at one time. N are drawn of each kind
-(default 10). `alone` and `solve` with several numbers of nodes and workers have so many seconds (default 10) for each. A row has, for each command,
-how many covers were found, and the mean seconds of those.
+Each instance has a cover. `quasigroup` is a square of 30 rows, columns and numbers, of which 325 cells are empty;
+`timetable` a full timetable of five classes with 30 periods: each class has a lesson in each period, and lessons with
+one teacher aren't at one time. N are drawn of each kind (default 10). `alone` and `solve` with several numbers of nodes
+and workers have so many seconds (default 10) for each. A row has, for each command, how many covers were found, and the
+mean seconds of those.
 
-Each cover is counted by `check`. It wants the program: (cd crates/solve_cli && rt run -- --version) builds it. The exit status is 0, 1 where an answer
-is wrong, 2 for a mistake on the command line or where there is no program.
+Each cover is counted by `check`. It wants the program: (cd crates/solve_cli && rt run -- --version) builds it. The exit
+status is 0, 1 where an answer is wrong, 2 for a mistake on the command line or where there is no program.
 """
 from __future__ import annotations
 
@@ -60,7 +61,8 @@ def turn_square(square: dict[tuple[int, int], int], draw: random.Random) -> None
 
 
 def timetable(path: str, draw: random.Random, classes: int = CLASSES, teachers: int = TEACHERS) -> None:
-    """Lessons of classes and teachers, each at one of the periods: drawn from a table in which no class and no teacher has two at a time."""
+    """Lessons of classes and teachers, each at one of the periods: drawn from a table in which no class and no teacher
+    has two at a time."""
     given: dict[tuple[int, int], int] = {}
     for _ in range(PERIODS):
         for who, teacher in enumerate(draw.sample(range(teachers), classes)):

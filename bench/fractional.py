@@ -3,16 +3,18 @@
 
     python3 bench/fractional.py [--seeds N] [--seconds N] [--kind KIND ..] [--write FOLDER]
 
-The kinds: `courts`, teams of which each trains on two of as many courts, or in a hall; `corners`, boards of three rows by pieces like an L;
-`missed`, three to eight classes with a lesson in each period but one, whose teachers are missed in one period after the other until there is no solution; `changed`, quasigroups of order
-20 or 30 with some cells free, in which one or two of the given numbers are wrong. None has a cover.
+The kinds: `courts`, teams of which each trains on two of as many courts, or in a hall; `corners`, boards of three rows
+by pieces like an L; `missed`, three to eight classes with a lesson in each period but one, whose teachers are missed in
+one period after the other until there is no solution; `changed`, quasigroups of order 20 or 30 with some cells free, in
+which one or two of the given numbers are wrong. None has a cover.
 
-N instances are drawn of each kind (default 3). A row has the items and options; the processor seconds of `why`, reading included, and of HiGHS, which
-looks for the same multipliers; and of the reason all needs, all rooms and the greatest of them. A dash: nothing within so many seconds (default 10).
-Each reason is added up by `scripts/zarfepoch check-reason`. With --write the problems are written, and nothing is run.
+N instances are drawn of each kind (default 3). A row has the items and options; the processor seconds of `why`, reading
+included, and of HiGHS, which looks for the same multipliers; and of the reason all needs, all rooms and the greatest of
+them. A dash: nothing within so many seconds (default 10). Each reason is added up by `scripts/zarfepoch check-reason`.
+With --write the problems are written, and nothing is run.
 
-It wants the program, and SciPy for HiGHS. The exit status is 0, 1 where a reason doesn't hold, 2 for a mistake on the command line or where there is
-no program.
+It wants the program, and SciPy for HiGHS. The exit status is 0, 1 where a reason doesn't hold, 2 for a mistake on the
+command line or where there is no program.
 """
 from __future__ import annotations
 

@@ -1,21 +1,25 @@
 #!/usr/bin/env python3
-"""Times `why`, `alone`, `learn` and `answer` beside other programs, on problems of which most are decided by what their files imply.
+"""Times `why`, `alone`, `learn` and `answer` beside other programs, on problems of which most are decided by what their
+files imply.
 
     python3 bench/implied.py [--seeds N] [--seconds N] [--kind KIND ..] [--write FOLDER]
 
-The kinds, most of problems which other programs once decided ten times as fast, or alone. With a cover: `class`, one class with 30 lessons in 30 periods, which are
-secondary, and seven teachers; `school`, three such classes with 25; `full`, up to ten; `tight`, three or eight with no more teachers than classes;
-`rooms`, five classes that share five rooms; `quasigroup`, a square of 30 rows with 325 empty cells; `killer`, a killer sudoku without given digits;
-`boxes`, Conway's cube of five rows. Without one: `over`, eight classes, one of whose teachers has 26 lessons in 25 periods; `edges`, the edges of a
-complete graph of 13 points in 12 colours, none of which is twice at a point; `differences`, two blocks of four numbers modulo 25 with each difference
-at most once; `exams`, 30 exams in nine slots, ten of which have a student in common by twos; `crossing`, lessons of four classes and teachers each, of
-which 13 share one by twos, in 12 periods; `pieces`, square boards of ten to fourteen rows for an X and an I of five squares each and dominoes.
+The kinds, most of problems which other programs once decided ten times as fast, or alone. With a cover: `class`, one
+class with 30 lessons in 30 periods, which are secondary, and seven teachers; `school`, three such classes with 25;
+`full`, up to ten; `tight`, three or eight with no more teachers than classes; `rooms`, five classes that share five
+rooms; `quasigroup`, a square of 30 rows with 325 empty cells; `killer`, a killer sudoku without given digits; `boxes`,
+Conway's cube of five rows. Without one: `over`, eight classes, one of whose teachers has 26 lessons in 25 periods;
+`edges`, the edges of a complete graph of 13 points in 12 colours, none of which is twice at a point; `differences`, two
+blocks of four numbers modulo 25 with each difference at most once; `exams`, 30 exams in nine slots, ten of which have a
+student in common by twos; `crossing`, lessons of four classes and teachers each, of which 13 share one by twos, in 12
+periods; `pieces`, square boards of ten to fourteen rows for an X and an I of five squares each and dominoes.
 
-N instances are drawn of each kind (default 3). A cell has the processor seconds, reading included, or a dash where there is no answer within so many
-seconds (default 10). The answers are compared, and each cover is counted by `check`. With --write the problems are written, and nothing is run.
+N instances are drawn of each kind (default 3). A cell has the processor seconds, reading included, or a dash where
+there is no answer within so many seconds (default 10). The answers are compared, and each cover is counted by `check`.
+With --write the problems are written, and nothing is run.
 
-It wants the program, and for the others the commands `gringo`, `clasp` and `cadical`, and SciPy for HiGHS. The exit status is 0, 1 where an answer is
-wrong, 2 for a mistake on the command line or where there is no program.
+It wants the program, and for the others the commands `gringo`, `clasp` and `cadical`, and SciPy for HiGHS. The exit
+status is 0, 1 where an answer is wrong, 2 for a mistake on the command line or where there is no program.
 """
 from __future__ import annotations
 
@@ -44,7 +48,8 @@ def asked(words: list[str], file: str, seconds: int) -> Told:
 
 
 def highs(file: str, seconds: int) -> Told:
-    """The same of HiGHS, an integer program: each primary item once, each secondary one at most once. It isn't asked where options have colours."""
+    """The same of HiGHS, an integer program: each primary item once, each secondary one at most once. It isn't asked
+    where options have colours."""
     from scipy.optimize import Bounds, LinearConstraint, milp    # type: ignore[import]
     from scipy.sparse import lil_matrix    # type: ignore[import]
     primary, secondary, options = read(file)

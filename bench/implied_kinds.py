@@ -1,7 +1,8 @@
-"""Makers of problems, most of which other programs once decided ten times as fast as this one, or alone; the kinds of implied.py.
+"""Makers of problems, most of which other programs once decided ten times as fast as this one, or alone; the kinds of
+implied.py.
 
-What decides most of them is implied by their files: secondary items that each cover uses, and options of which each two clash. The others have covers
-that are found by learning from dead ends.
+What decides most of them is implied by their files: secondary items that each cover uses, and options of which each two
+clash. The others have covers that are found by learning from dead ends.
 """
 from __future__ import annotations
 
@@ -92,7 +93,8 @@ def differences(path: str, draw: random.Random) -> None:
 
 
 def exams(path: str, draw: random.Random) -> None:
-    """Exams of which some can't be at one time: ten by twos, each pair for another student, and a quarter of the other pairs."""
+    """Exams of which some can't be at one time: ten by twos, each pair for another student, and a quarter of the other
+    pairs."""
     names = draw.sample(range(EXAMS), EXAMS)
     clique = set(names[:CLIQUE])
     pairs = [(a, b) for a, b in itertools.combinations(range(EXAMS), 2) if {a, b} <= clique or draw.random() < 0.25]
@@ -100,8 +102,8 @@ def exams(path: str, draw: random.Random) -> None:
     for a, b in pairs:
         students[a].append(f"s{a}-{b}")
         students[b].append(f"s{a}-{b}")
-    # (a student and a slot are one item: 900 items hold those of some hundred pairs, so each slot has all pairs of the clique and few others, and of
-    # the 1,000 items that a file may have, some are left for cliques)
+    # (a student and a slot are one item: 900 items hold those of some hundred pairs, so each slot has all pairs of the
+    # clique and few others, and of the 1,000 items that a file may have, some are left for cliques)
     room = (900 - EXAMS) // SLOTS
     kept = {f"s{a}-{b}" for a, b in sorted(pairs, key=lambda pair: not set(pair) <= clique)[:room]}
     write(path, [f"e{exam}" for exam in range(EXAMS)],
@@ -109,7 +111,8 @@ def exams(path: str, draw: random.Random) -> None:
 
 
 def crossing(path: str, draw: random.Random) -> None:
-    """The 13 lines of the projective plane of order 3 as lessons, its points as classes and teachers, and as many lessons of two others of these."""
+    """The 13 lines of the projective plane of order 3 as lessons, its points as classes and teachers, and as many
+    lessons of two others of these."""
     lines = [[(point + shift) % LINES for point in (0, 1, 3, 9)] for shift in range(LINES)]
     lessons = [(f"x{number}", line) for number, line in enumerate(lines)]
     lessons += [(f"y{number}", draw.sample(range(LINES, 2 * LINES), 2)) for number in range(LINES)]
@@ -136,7 +139,8 @@ def pieces(path: str, draw: random.Random) -> None:
 
 
 def boxes(path: str, draw: random.Random) -> None:
-    """Conway's cube of five rows: thirteen boxes of one by two by four, one of two by two by two, one of one by two by two, three of one by one by three."""
+    """Conway's cube of five rows: thirteen boxes of one by two by four, one of two by two by two, one of one by two by
+    two, three of one by one by three."""
     own = [("cube", (2, 2, 2)), ("plate", (1, 2, 2)), ("a", (1, 1, 3)), ("b", (1, 1, 3)), ("c", (1, 1, 3)), ("", (1, 2, 4))]
     options = [[*filter(None, [name]), *("-".join(map(str, cell)) for cell in cells)] for name, size in own for cells in placed(size)]
     draw.shuffle(options)
@@ -151,7 +155,8 @@ def placed(size: tuple[int, int, int]) -> Iterator[list[tuple[int, ...]]]:
 
 
 def killer(path: str, draw: random.Random) -> None:
-    """A killer sudoku without given digits: cages of up to five cells, grown at random, with the sums of a square that was drawn."""
+    """A killer sudoku without given digits: cages of up to five cells, grown at random, with the sums of a square that
+    was drawn."""
     bands = [draw.sample(range(3), 3) for _ in range(2)]
     rows, columns = ([3 * band + line for band in order for line in draw.sample(range(3), 3)] for order in bands)
     digits = draw.sample(range(1, DIGITS + 1), DIGITS)
@@ -171,7 +176,8 @@ def killer(path: str, draw: random.Random) -> None:
 
 
 def grow(cell: tuple[int, int], cage: dict[tuple[int, int], int], square: dict[tuple[int, int], int], draw: random.Random) -> None:
-    """Begins the next cage at a cell, and grows it by free neighbours whose digits it hasn't, to three to five cells where there are as many."""
+    """Begins the next cage at a cell, and grows it by free neighbours whose digits it hasn't, to three to five cells
+    where there are as many."""
     number = max(cage.values(), default=-1) + 1
     cage[cell] = number
     cells = [cell]

@@ -3,7 +3,8 @@
 
     python3 bench/instances.py FOLDER
 
-It wants no built program. The exit status is 0, or 2 for a mistake on the command line or a folder that can't be written.
+It wants no built program. The exit status is 0, or 2 for a mistake on the command line or a folder that can't be
+written.
 """
 from __future__ import annotations
 
@@ -75,7 +76,8 @@ def diamond() -> set[tuple[int, int]]:
 
 
 def torus_queens(n: int, kinds_primary: int = 2) -> Puzzle:
-    """Queens that attack nobody on a board whose edges meet. Rows and columns are primary, or diagonals too: n queens use each of them."""
+    """Queens that attack nobody on a board whose edges meet. Rows and columns are primary, or diagonals too: n queens
+    use each of them."""
     options = [[f"r{r}", f"c{c}", f"a{(r + c) % n}", f"b{(r - c) % n}"] for r in range(n) for c in range(n)]
     primary, secondary = ([f"{kind}{k}" for kind in some for k in range(n)] for some in ("rcab"[:kinds_primary], "rcab"[kinds_primary:]))
     return Puzzle(primary, secondary, options)

@@ -3,16 +3,18 @@
 
     python3 bench/learning.py [--seeds N] [--seconds N] [--kind KIND ..]
 
-The kinds: `days`, timetables whose lessons have fixed days, of eight classes with six periods on each of five days, drawn from a plan; `days-drawn`, the
-same with days that are drawn, so that there may be no plan; `school`, full timetables of eight classes with 30 periods; `quasigroup`, squares of 30
-with 325 empty cells; `jigsaw`, sudokus of 15 with 50 given cells, whose regions were drawn; `langford`, pairs of 1 to 44; `board`, a board of ten by
-ten without two opposite corners, by dominoes, which has no cover.
+The kinds: `days`, timetables whose lessons have fixed days, of eight classes with six periods on each of five days,
+drawn from a plan; `days-drawn`, the same with days that are drawn, so that there may be no plan; `school`, full
+timetables of eight classes with 30 periods; `quasigroup`, squares of 30 with 325 empty cells; `jigsaw`, sudokus of 15
+with 50 given cells, whose regions were drawn; `langford`, pairs of 1 to 44; `board`, a board of ten by ten without two
+opposite corners, by dominoes, which has no cover.
 
-N instances are drawn of each kind (default 5). `learn` has five seeds for each; a cell has the median of the processor seconds, reading included, and
-how many runs had no answer within so many seconds (default 10). Each cover of `learn` is counted by `check`, and each answer compared with the peers'.
+N instances are drawn of each kind (default 5). `learn` has five seeds for each; a cell has the median of the processor
+seconds, reading included, and how many runs had no answer within so many seconds (default 10). Each cover of `learn` is
+counted by `check`, and each answer compared with the peers'.
 
-It wants the program, and for the peers the commands `gringo`, `clasp` and `cadical`. The exit status is 0, 1 where an answer is wrong, 2 for a mistake
-on the command line or where there is no program.
+It wants the program, and for the peers the commands `gringo`, `clasp` and `cadical`. The exit status is 0, 1 where an
+answer is wrong, 2 for a mistake on the command line or where there is no program.
 """
 from __future__ import annotations
 
@@ -97,7 +99,8 @@ def is_joined(cells: set[tuple[int, int]]) -> bool:
 
 
 def drawn_regions(square: dict[tuple[int, int], int], draw: random.Random) -> dict[tuple[int, int], int]:
-    """Regions that have each number once: boxes that exchange cells with the same number, as long as both stay in one piece."""
+    """Regions that have each number once: boxes that exchange cells with the same number, as long as both stay in one
+    piece."""
     region = {cell: box_of(*cell) for cell in square}
     places = [[cell for cell in square if square[cell] == value] for value in range(JIGSAW)]
     for _ in range(40 * JIGSAW * JIGSAW):

@@ -3,14 +3,15 @@
 
     python3 bench/looks.py OTHER [--files N] [--times N] [--words WORDS] [--kind KIND ..] [--write FOLDER]
 
-OTHER is a program that looks for none, or an older one; WORDS are the command, with its options (default "alone --unlimited"). N files are drawn of
-each of ten kinds (default 50), all of which have a cover: dominoes and pentominoes on boards, sudokus of 16x16, quasigroups with holes, timetables,
-colourings, matchings of three sides, and options of three, of four and of two to six items. Each file is asked N times by both, in turns (default 5),
-and the least seconds of each count. A row has the kind; the least, the median and the greatest seconds of the other program; by how many percent all
-files take longer, and in how many of them more than 2 percent and more than a millisecond is lost.
+OTHER is a program that looks for none, or an older one; WORDS are the command, with its options (default "alone
+--unlimited"). N files are drawn of each of ten kinds (default 50), all of which have a cover: dominoes and pentominoes
+on boards, sudokus of 16x16, quasigroups with holes, timetables, colourings, matchings of three sides, and options of
+three, of four and of two to six items. Each file is asked N times by both, in turns (default 5), and the least seconds
+of each count. A row has the kind; the least, the median and the greatest seconds of the other program; by how many
+percent all files take longer, and in how many of them more than 2 percent and more than a millisecond is lost.
 
-With --write the files are written, and nothing is run. It wants both programs. The exit status is 0, 1 where two covers differ though the words give
-the first one, 2 for a mistake on the command line or where there is no program.
+With --write the files are written, and nothing is run. It wants both programs. The exit status is 0, 1 where two covers
+differ though the words give the first one, 2 for a mistake on the command line or where there is no program.
 """
 from __future__ import annotations
 

@@ -16,7 +16,8 @@ from built import is_right  # noqa: E402
 
 
 class Ran(NamedTuple):
-    """What a command wrote; its exit status, which is none where its time was over; and its processor and wall seconds."""
+    """What a command wrote; its exit status, which is none where its time was over; and its processor and wall
+    seconds."""
     text: str
     status: Optional[int]
     processor: float
@@ -29,7 +30,8 @@ def processor_seconds(used: resource.struct_rusage) -> float:
 
 
 def spent() -> float:
-    """The processor seconds of all commands that have ended so far: what one takes is how much more they are after it than before."""
+    """The processor seconds of all commands that have ended so far: what one takes is how much more they are after it
+    than before."""
     return processor_seconds(resource.getrusage(resource.RUSAGE_CHILDREN))
 
 
@@ -47,7 +49,8 @@ def run(words: list[str], given: str = "", seconds: Optional[float] = None) -> R
 
 
 def ended(process: subprocess.Popen[Any]) -> resource.struct_rusage:
-    """What a process used, once it has ended; its status is known then. (Its memory is at least that of the Python that began it.)"""
+    """What a process used, once it has ended; its status is known then. (Its memory is at least that of the Python that
+    began it.)"""
     used: resource.struct_rusage
     _, status, used = os.wait4(process.pid, 0)
     process.returncode = os.waitstatus_to_exitcode(status)
@@ -55,7 +58,8 @@ def ended(process: subprocess.Popen[Any]) -> resource.struct_rusage:
 
 
 def found_cover(file: str, text: str, whose: str) -> Optional[bool]:
-    """Whether a command found a cover, by what it wrote; none where it had no answer. A cover that `check` doesn't call right ends the bench."""
+    """Whether a command found a cover, by what it wrote; none where it had no answer. A cover that `check` doesn't call
+    right ends the bench."""
     if text.startswith("cover"):
         if not is_right(file, text):
             sys.exit(f"a wrong cover{whose}")

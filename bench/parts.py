@@ -1,18 +1,21 @@
 #!/usr/bin/env python3
-"""Times searches that are taken apart, searched by GNU parallel, killed half way and resumed, beside `alone` and `solve`.
+"""Times searches that are taken apart, searched by GNU parallel, killed half way and resumed, beside `alone` and
+`solve`.
 
     python3 bench/parts.py [--parts N] [--jobs N] [--beside] [NAME ..]
 
-Each instance is split into at least N parts (default 200). GNU parallel searches so many at a time (default 4), each by `alone`, and is killed with all that it runs
-once half of the parts have an answer; then the same command goes on. The table has the seconds of both runs, those of all parts one by one and of the
-greatest one, and whether the joined answer is right. With --beside, `alone` and `solve --nodes 1` with so many workers are timed too.
+Each instance is split into at least N parts (default 200). GNU parallel searches so many at a time (default 4), each by
+`alone`, and is killed with all that it runs once half of the parts have an answer; then the same command goes on. The
+table has the seconds of both runs, those of all parts one by one and of the greatest one, and whether the joined answer
+is right. With --beside, `alone` and `solve --nodes 1` with so many workers are timed too.
 
-`fives` has options of five of its 62 items, drawn at random, and no cover, since five doesn't divide 62. `late` has one item more, with two
-options: behind the first of them lies all of `fives`, and the other one, which takes two of the items too, leads to a cover. `short` and
-`short-late` are these of 52 items: `fives` takes more than 40 minutes by one thread, `short` some twenty.
+`fives` has options of five of its 62 items, drawn at random, and no cover, since five doesn't divide 62. `late` has one
+item more, with two options: behind the first of them lies all of `fives`, and the other one, which takes two of the
+items too, leads to a cover. `short` and `short-late` are these of 52 items: `fives` takes more than 40 minutes by one
+thread, `short` some twenty.
 
-It wants GNU parallel, and the program: (cd crates/solve_cli && rt run -- --version) builds it. The exit status is 0, 1 where an answer is wrong, 2 for a
-mistake on the command line or where something is missing.
+It wants GNU parallel, and the program: (cd crates/solve_cli && rt run -- --version) builds it. The exit status is 0, 1
+where an answer is wrong, 2 for a mistake on the command line or where something is missing.
 """
 from __future__ import annotations
 
@@ -64,7 +67,8 @@ def kill_session(leader: int) -> None:
 
 
 def killed_after(words: list[str], folder: str, count: int) -> float:
-    """Runs a command until so many parts have an answer, kills it with all that it runs, and answers how many seconds that took."""
+    """Runs a command until so many parts have an answer, kills it with all that it runs, and answers how many seconds
+    that took."""
     begun = time.monotonic()
     with subprocess.Popen(words, stderr=subprocess.DEVNULL, start_new_session=True) as run:
         while answers(folder) < count and run.poll() is None:

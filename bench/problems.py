@@ -21,7 +21,8 @@ def put(folder: str, name: str, note: str, puzzle: Puzzle) -> None:
 
 
 def write(path: str, primary: Sequence[str], options: list[list[str]], secondary: Optional[Sequence[str]] = None) -> None:
-    """Writes a problem. Where no secondary items are given, they are the others that options name, in the order of their names."""
+    """Writes a problem. Where no secondary items are given, they are the others that options name, in the order of
+    their names."""
     if secondary is None:
         secondary = sorted({name for option in options for name in option}.difference(primary))
     with open(path, "wb") as file:
@@ -34,7 +35,8 @@ def write_primary(path: str, options: list[list[str]]) -> None:
 
 
 def straight(cells: set[Cell], length: int) -> tuple[list[str], list[list[str]]]:
-    """A board's cells as items, and as options straight pieces of so many of them: first those in rows, then those in columns."""
+    """A board's cells as items, and as options straight pieces of so many of them: first those in rows, then those in
+    columns."""
     names = names_of(cells)
     across = [[(row, column + k) for k in range(length)] for row, column in sorted(cells)]
     down = [[(row + k, column) for k in range(length)] for row, column in sorted(cells)]

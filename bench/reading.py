@@ -3,13 +3,13 @@
 
     python3 bench/reading.py [--times N]
 
-Each file has 1,000 items and 20,000 options of ten items each. Its names are random and of seven bytes, random and of 32 bytes,
-or of 32 bytes of which the first 30 are the same, the worst for a comparison byte by byte. The program is `alone` with `--fuel 1`,
-by turns over the files; the least processor time of the whole process counts, user and system. The ratio is to the time of random names of the same
-length.
+Each file has 1,000 items and 20,000 options of ten items each. Its names are random and of seven bytes, random and of
+32 bytes, or of 32 bytes of which the first 30 are the same, the worst for a comparison byte by byte. The program is
+`alone` with `--fuel 1`, by turns over the files; the least processor time of the whole process counts, user and system.
+The ratio is to the time of random names of the same length.
 
-It wants the program: (cd crates/solve_cli && rt run -- --version) builds it. The exit status is 0, 1 where a run ends otherwise than without
-an answer, 2 for a mistake on the command line or where there is no program.
+It wants the program: (cd crates/solve_cli && rt run -- --version) builds it. The exit status is 0, 1 where a run ends
+otherwise than without an answer, 2 for a mistake on the command line or where there is no program.
 """
 from __future__ import annotations
 

@@ -3,14 +3,14 @@
 
     python3 bench/reasons.py [--seconds N] [--times N] [NAME ..]
 
-Each instance that is named, or each of all, is given to `solve_cli why`, `solve_cli alone --unlimited` and `scripts/zarfepoch why-none`. Each has N
-seconds (default 60); a dash stands where it didn't end. The table has the reason, how many items have a number in it, and the
-least processor seconds of each, but of `alone` the least wall seconds, since it looks for a reason 10 and 100 milliseconds after its start, and
-later by multipliers, all by the clock.
-Each reason is added up by `scripts/zarfepoch check-reason`.
+Each instance that is named, or each of all, is given to `solve_cli why`, `solve_cli alone --unlimited` and
+`scripts/zarfepoch why-none`. Each has N seconds (default 60); a dash stands where it didn't end. The table has the
+reason, how many items have a number in it, and the least processor seconds of each, but of `alone` the least wall
+seconds, since it looks for a reason 10 and 100 milliseconds after its start, and later by multipliers, all by the
+clock. Each reason is added up by `scripts/zarfepoch check-reason`.
 
-It wants the program: (cd crates/solve_cli && rt run -- --version) builds it. The exit status is 0, 1 where a reason doesn't hold or two
-come to other outcomes, 2 for a mistake on the command line or where there is no program.
+It wants the program: (cd crates/solve_cli && rt run -- --version) builds it. The exit status is 0, 1 where a reason
+doesn't hold or two come to other outcomes, 2 for a mistake on the command line or where there is no program.
 """
 from __future__ import annotations
 
@@ -65,8 +65,8 @@ def lessons(hours: list[list[int]], periods: int) -> Puzzle:
 
 
 def quasigroup(order: int, filled: int, seed: int) -> Puzzle:
-    """A square of so many rows and numbers in which so many cells are filled one by one, by what no row and column has; each row and
-    column is to have each number."""
+    """A square of so many rows and numbers in which so many cells are filled one by one, by what no row and column has;
+    each row and column is to have each number."""
     draw = random.Random(seed)
     free = {f"{kind}{a}-{b}" for kind in "xrc" for a in range(order) for b in range(order)}
     parts = {(r, c, v): (f"x{r}-{c}", f"r{r}-{v}", f"c{c}-{v}") for r in range(order) for c in range(order) for v in range(order)}

@@ -3,16 +3,18 @@
 
     python3 bench/run.py [--times N] [--sage FOLDER] [FILE ..]
 
-Each file, or where none is named each instance of the benchmark, is searched by all of them, by turns; the least processor time
-of the whole process counts, user and system, reading included. It prints a table, in which the ratio is to the better one of the two others, where that takes
-more than a hundredth of a second, and the geometric mean of the ratios, over all and over those with more than 100,000 visits.
+Each file, or where none is named each instance of the benchmark, is searched by all of them, by turns; the least
+processor time of the whole process counts, user and system, reading included. It prints a table, in which the ratio is
+to the better one of the two others, where that takes more than a hundredth of a second, and the geometric mean of the
+ratios, over all and over those with more than 100,000 visits.
 
-SageMath is not timed on files with colours, which it doesn't know. FOLDER is where its file dancing_links_c.h lies; without it that of
-Debian's package python3-sage is used, if it is installed, and else SageMath isn't timed. To have the file alone, `apt-get download
-python3-sage` and then `dpkg-deb -x python3-sage_*.deb HERE` put it into HERE/usr/lib/python3/dist-packages/sage/combinat/matrices.
+SageMath is not timed on files with colours, which it doesn't know. FOLDER is where its file dancing_links_c.h lies;
+without it that of Debian's package python3-sage is used, if it is installed, and else SageMath isn't timed. To have the
+file alone, `apt-get download python3-sage` and then `dpkg-deb -x python3-sage_*.deb HERE` put it into
+HERE/usr/lib/python3/dist-packages/sage/combinat/matrices.
 
-It wants gcc, with SageMath g++ too, and the program: (cd crates/solve_cli && rt run -- --version) builds it. The exit status is 0, 1 where
-two come to other outcomes, 2 for a mistake on the command line or where something is missing.
+It wants gcc, with SageMath g++ too, and the program: (cd crates/solve_cli && rt run -- --version) builds it. The exit
+status is 0, 1 where two come to other outcomes, 2 for a mistake on the command line or where something is missing.
 """
 from __future__ import annotations
 

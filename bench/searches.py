@@ -3,14 +3,15 @@
 
     python3 bench/searches.py [--times N] [--fuel N] [NAME ..]
 
-Each instance that is named, or each of the benchmark's, four more whose options bar few others, and two that mislead averages, is
-searched both ways, until the search ends or has made N visits (default 100,000). The first columns say which of the two the program
-takes and what the search came to. Times are the least processor seconds of the whole process, reading included. Where the command valgrind is on the path, millions of
-instructions are told too, without those of a search of one visit: reading and building the tables. The ratio is the time of the search
-that the program takes to the time of the other.
+Each instance that is named, or each of the benchmark's, four more whose options bar few others, and two that mislead
+averages, is searched both ways, until the search ends or has made N visits (default 100,000). The first columns say
+which of the two the program takes and what the search came to. Times are the least processor seconds of the whole
+process, reading included. Where the command valgrind is on the path, millions of instructions are told too, without
+those of a search of one visit: reading and building the tables. The ratio is the time of the search that the program
+takes to the time of the other.
 
-It wants the program: (cd crates/workbench && rt run) builds it. The exit status is 0, 1 where the two come to other outcomes, 2 for
-a mistake on the command line or where there is no program.
+It wants the program: (cd crates/workbench && rt run) builds it. The exit status is 0, 1 where the two come to other
+outcomes, 2 for a mistake on the command line or where there is no program.
 """
 from __future__ import annotations
 

@@ -3,13 +3,13 @@
 
     python3 bench/simulate.py [--long]
 
-Each row lets a world of so many nodes take so many turns by chance, from seed 1, and tells turns a second of processor time,
-user and system, the packets sent, and the most memory of the process. `letters` and `queens-8` are published before their turns are over; the
-chessboard has no cover and a search too long for these turns. On the last rows one node splits Langford pairs of 13 at each
-visit, so its table grows: to 26,000 children in 400,000 turns.
+Each row lets a world of so many nodes take so many turns by chance, from seed 1, and tells turns a second of processor
+time, user and system, the packets sent, and the most memory of the process. `letters` and `queens-8` are published
+before their turns are over; the chessboard has no cover and a search too long for these turns. On the last rows one
+node splits Langford pairs of 13 at each visit, so its table grows: to 26,000 children in 400,000 turns.
 
-It wants the program: (cd crates/workbench && rt run) builds it. The exit status is 0, 1 where the program failed, 2 for a mistake
-on the command line or where there is no program.
+It wants the program: (cd crates/workbench && rt run) builds it. The exit status is 0, 1 where the program failed, 2 for
+a mistake on the command line or where there is no program.
 """
 from __future__ import annotations
 
@@ -51,7 +51,8 @@ def most_memory(pid: int) -> Optional[int]:
 
 
 def run(words: list[str]) -> tuple[str, float, int]:
-    """The output of the program, its processor time, and its greatest memory in bytes, which is looked at each 2 milliseconds."""
+    """The output of the program, its processor time, and its greatest memory in bytes, which is looked at each 2
+    milliseconds."""
     before, memory = spent(), 0
     with subprocess.Popen([WORKBENCH, *words], stdout=subprocess.PIPE, text=True) as child:
         while child.poll() is None:

@@ -3,17 +3,19 @@
 
     python3 bench/solve.py [--times N] [--seconds N] [NAME ..]
 
-Each instance that is named, or each of nine, is searched by `alone`, by `alone --unlimited`, and by `solve` as one node of one, two
-and four workers and as two and four nodes of one worker, by turns. The least time that passed counts, from the start of the process to its
-end; the figure in brackets is how many times as fast as `alone` it was. All that answer have to come to the same outcome, and covers are
-tested by `check`. A dash stands where there was no answer, for `solve` in N seconds (default 60), at the first time. The column
-`4 alone` is what the machine allows: four processes of `alone` run at once, and the figure is four times the time of one over the time
-until all have ended. The figures mean something on a machine with four processors and nothing else to do.
+Each instance that is named, or each of nine, is searched by `alone`, by `alone --unlimited`, and by `solve` as one node
+of one, two and four workers and as two and four nodes of one worker, by turns. The least time that passed counts, from
+the start of the process to its end; the figure in brackets is how many times as fast as `alone` it was. All that answer
+have to come to the same outcome, and covers are tested by `check`. A dash stands where there was no answer, for `solve`
+in N seconds (default 60), at the first time. The column `4 alone` is what the machine allows: four processes of `alone`
+run at once, and the figure is four times the time of one over the time until all have ended. The figures mean something
+on a machine with four processors and nothing else to do.
 
-Beside the nine there are those of states.py, of which many have states that come again; there `alone` may end at the greatest fuel.
+Beside the nine there are those of states.py, of which many have states that come again; there `alone` may end at the
+greatest fuel.
 
-It wants the program: (cd crates/solve_cli && rt run -- --version) builds it. The exit status is 0, 1 where an answer is wrong, 2 for a mistake
-on the command line or where there is no program.
+It wants the program: (cd crates/solve_cli && rt run -- --version) builds it. The exit status is 0, 1 where an answer is
+wrong, 2 for a mistake on the command line or where there is no program.
 """
 from __future__ import annotations
 
@@ -72,8 +74,8 @@ def at_once(file: str, count: int) -> float:
 
 
 def answer(words: list[str], said: str) -> tuple[str, float]:
-    """The outcome of a run and its seconds; the outcome that was said before, and no seconds, where it gives no answer. Any other
-    outcome ends all."""
+    """The outcome of a run and its seconds; the outcome that was said before, and no seconds, where it gives no answer.
+    Any other outcome ends all."""
     text, seconds = timed(words)
     if text == "no answer\n":
         return said, math.inf

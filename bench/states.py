@@ -1,19 +1,21 @@
 #!/usr/bin/env python3
-"""Times the search that keeps the states which it found to have no cover beside the plain one, and beside clingo and CaDiCaL.
+"""Times the search that keeps the states which it found to have no cover beside the plain one, and beside clingo and
+CaDiCaL.
 
     python3 bench/states.py [--seconds N] [--times N] [--at-once N] [NAME ..]
 
-Each instance that is named, or each of all, is searched by the plain search, by the one that keeps states, both of the store that
-the program takes, by `alone --unlimited`, and by clingo and CaDiCaL where the commands `clingo` and `cadical` are on the path; how they
-get the problem is said in encodings_of_peers.py. Each has N processor seconds (default 60); a dash stands where it didn't end. Times are the least
-processor seconds of the whole process, which reads the problem, of N runs (default 3), or of one that takes more than a tenth of what it has.
-Where the plain search ends within two seconds and the command valgrind is on the path, the last column has how many instructions the search that
+Each instance that is named, or each of all, is searched by the plain search, by the one that keeps states, both of the
+store that the program takes, by `alone --unlimited`, and by clingo and CaDiCaL where the commands `clingo` and
+`cadical` are on the path; how they get the problem is said in encodings_of_peers.py. Each has N processor seconds
+(default 60); a dash stands where it didn't end. Times are the least processor seconds of the whole process, which reads
+the problem, of N runs (default 3), or of one that takes more than a tenth of what it has. Where the plain search ends
+within two seconds and the command valgrind is on the path, the last column has how many instructions the search that
 keeps states takes to one of the plain search, without those of a search of one visit.
 
 With --at-once N so many run at a time; the figures of several disturb one another a little.
 
-It wants the programs: (cd crates/workbench && rt run) and (cd crates/solve_cli && rt run -- --version) build them. The exit
-status is 0, 1 where two come to other outcomes, 2 for a mistake on the command line or where there is no program.
+It wants the programs: (cd crates/workbench && rt run) and (cd crates/solve_cli && rt run -- --version) build them. The
+exit status is 0, 1 where two come to other outcomes, 2 for a mistake on the command line or where there is no program.
 """
 from __future__ import annotations
 
@@ -75,7 +77,8 @@ def write_instances(folder: str) -> None:
 
 
 def run(words: list[str], seconds: int, lines: Iterable[str] = ()) -> Optional[Found]:
-    """The outcome that a command writes, in a word, and its processor seconds; none where it doesn't end after so many of them."""
+    """The outcome that a command writes, in a word, and its processor seconds; none where it doesn't end after so many
+    of them."""
     with tempfile.TemporaryFile("w+", encoding="ascii") as given, tempfile.TemporaryFile("w+", encoding="utf-8", errors="replace") as out:
         given.writelines(f"{line}\n" for line in lines)
         given.seek(0)

@@ -3,15 +3,15 @@
 
     python3 bench/table.py
 
-A guest is split into a thousand, a hundred thousand and a million children. All but 200 of them, those of least serial, are
-taken up and end with nothing found; this is the first row. Then 20 are taken up and end, 20 are given away and made ready again,
-20 are taken up and split into ten, and these frames are finished by a cover: nine children of each are aborted, which stand far
-behind their frame. Then 20 guests that were split into ten are refused, which aborts these. At the end members come that tell
-nothing new. Then ten thousand guests are admitted in order, taken up, end, and settle. Each row has the
-microseconds that a call took on the average of its calls, the least of three runs.
+A guest is split into a thousand, a hundred thousand and a million children. All but 200 of them, those of least serial,
+are taken up and end with nothing found; this is the first row. Then 20 are taken up and end, 20 are given away and made
+ready again, 20 are taken up and split into ten, and these frames are finished by a cover: nine children of each are
+aborted, which stand far behind their frame. Then 20 guests that were split into ten are refused, which aborts these. At
+the end members come that tell nothing new. Then ten thousand guests are admitted in order, taken up, end, and settle.
+Each row has the microseconds that a call took on the average of its calls, the least of three runs.
 
-It wants the program: (cd crates/workbench && rt run) builds it. The exit status is 0, or 2 for a mistake on the command line or
-where there is no program.
+It wants the program: (cd crates/workbench && rt run) builds it. The exit status is 0, or 2 for a mistake on the command
+line or where there is no program.
 """
 from __future__ import annotations
 

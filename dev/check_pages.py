@@ -10,16 +10,16 @@ Without a PAGE it checks every page (*.md) of the repository. Names are read in 
 - on the page of a crate, a small word in brackets is the name of a clause there;
 - a path is that of a file or folder, from the top or from some folder on; a file of definitions may lack its ending.
 
-Words of capitals alone are places that a reader fills in. The code is what is in crates, scripts, trials, dev, bench, examples and python, without pages,
-bugs and the comments of Rattle; names of files count too.
+Words of capitals alone are places that a reader fills in. The code is what is in crates, scripts, trials, dev, bench,
+examples and python, without pages, bugs and the comments of Rattle; names of files count too.
 
-The target of each link exists, and its heading. Outside of code no page uses a word of REFUSED. No comment of Rattle uses a word of
-REFUSED_IN_COMMENTS.
-The options in the tables of COMMANDS, SOLVE and SIMULATE are those of the program's help, and COMMANDS has a row for each command. The
-version is the same in the program, in the package for Python, in CITATION.cff and at the top of CHANGELOG.md.
+The target of each link exists, and its heading. Outside of code no page uses a word of REFUSED. No comment of Rattle
+uses a word of REFUSED_IN_COMMENTS. The options in the tables of COMMANDS, SOLVE and SIMULATE are those of the program's
+help, and COMMANDS has a row for each command. The version is the same in the program, in the package for Python, in
+CITATION.cff and at the top of CHANGELOG.md.
 
-Each mistake is printed with its page and line, and a last line counts them. The exit status is 1 if there is any, else 0, or 2 for a
-mistake on the command line.
+Each mistake is printed with its page and line, and a last line counts them. The exit status is 1 if there is any, else
+0, or 2 for a mistake on the command line.
 """
 from __future__ import annotations
 

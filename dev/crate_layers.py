@@ -1,7 +1,7 @@
 """The crates of crates.txt in their layers, and which ones use which.
 
-A line of crates.txt is `CRATE: USED ..`. A comment `# N NAME: WORDS` begins layer N, and `# NAME: WORDS`, where NAME is a single
-word, a group that is beside the layers. Other comments are passed over.
+A line of crates.txt is `CRATE: USED ..`. A comment `# N NAME: WORDS` begins layer N, and `# NAME: WORDS`, where NAME is
+a single word, a group that is beside the layers. Other comments are passed over.
 """
 from __future__ import annotations
 
@@ -71,7 +71,8 @@ class Crates:
         return [it for it in used if not any(it in self.below[other] for other in used if other != it)]
 
     def layer_of(self, crate: str) -> int:
-        """The number of a crate's layer; beside the layers, of the highest one that it is built on, or else of the first."""
+        """The number of a crate's layer; beside the layers, of the highest one that it is built on, or else of the
+        first."""
         own = [group.number for group in self.layers if crate in group.crates]
         reached = [group.number for group in self.layers if self.below[crate] & set(group.crates)]
         return max(own or reached or [1])
@@ -85,7 +86,8 @@ class Crates:
         return [crate for crate in group.crates if self.layer_of(crate) == number]
 
     def mistakes(self) -> Iterator[str]:
-        """What is wrong with crates.txt, so that no picture can be drawn: a layer without crates, or a line above one that it uses."""
+        """What is wrong with crates.txt, so that no picture can be drawn: a layer without crates, or a line above one
+        that it uses."""
         seen: set[str] = set()
         if not self.layers or not all(group.crates for group in self.layers):
             yield "crates.txt: no layer, or one without crates"

@@ -3,13 +3,14 @@
 
     python3 dev/draw_layers.py [--text | --check]
 
-The picture has a band for each layer, the lowest at the bottom, with a box for each crate. A line leads down to what a crate uses; where
-another crate that it uses is built on that one, there is none. Tests and tools are beside the layer of the highest crate that they use.
-It is drawn from crates.txt alone, where a comment names each layer.
+The picture has a band for each layer, the lowest at the bottom, with a box for each crate. A line leads down to what a
+crate uses; where another crate that it uses is built on that one, there is none. Tests and tools are beside the layer
+of the highest crate that they use. It is drawn from crates.txt alone, where a comment names each layer.
 
---text prints the same as text, lowest first. --check prints a line for each mistake: a picture in docs that isn't as it is drawn now, a
-crate that docs/TOUR.md doesn't name, or one that is above a crate that it uses in crates.txt. The exit status is 0, 1 if --check finds a
-mistake, or 2 for a mistake on the command line, or in crates.txt if there is something to draw or print.
+--text prints the same as text, lowest first. --check prints a line for each mistake: a picture in docs that isn't as it
+is drawn now, a crate that docs/TOUR.md doesn't name, or one that is above a crate that it uses in crates.txt. The exit
+status is 0, 1 if --check finds a mistake, or 2 for a mistake on the command line, or in crates.txt if there is
+something to draw or print.
 """
 from __future__ import annotations
 

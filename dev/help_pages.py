@@ -1,14 +1,15 @@
 #!/usr/bin/env python3
-"""Writes man pages and completions for bash and zsh of the program and of the commands zarfepoch and zarfepoch-*, made from their own help.
+"""Writes man pages and completions for bash and zsh of the program and of the commands zarfepoch and zarfepoch-*, made
+from their own help.
 
     dev/help_pages.py [--package] FOLDER
 
-FOLDER gets, for the program solve_cli and for each command NAME, `NAME.1`, `NAME.bash` and `_NAME`. Each option, argument and sentence in them comes
-from what they print for `--help`, so they can't differ from it. With --package those of the program are left out. scripts/install.sh puts them where
-they belong.
+FOLDER gets, for the program solve_cli and for each command NAME, `NAME.1`, `NAME.bash` and `_NAME`. Each option,
+argument and sentence in them comes from what they print for `--help`, so they can't differ from it. With --package
+those of the program are left out. scripts/install.sh puts them where they belong.
 
-It wants the program: (cd crates/solve_cli && rt run -- --version) builds it; with --package none. The exit status is 0, or 2 for a mistake on the
-command line, where there is no program, or where a help doesn't read as expected.
+It wants the program: (cd crates/solve_cli && rt run -- --version) builds it; with --package none. The exit status is 0,
+or 2 for a mistake on the command line, where there is no program, or where a help doesn't read as expected.
 """
 from __future__ import annotations
 
@@ -171,7 +172,8 @@ def command_man(name: str, help: Help) -> str:
 
 
 def command_bash(name: str, help: Help, kinds: dict[str, Help]) -> str:
-    """The completion for bash: the first word of a command that has kinds, then options, and files in every other place."""
+    """The completion for bash: the first word of a command that has kinds, then options, and files in every other
+    place."""
     function = "_" + name.replace("-", "_")
     first = f"""    if [ "$COMP_CWORD" -eq 1 ]; then
         mapfile -t COMPREPLY < <(compgen -W "{' '.join([*kinds, *longs(help)])}" -- "$word")

@@ -1,4 +1,5 @@
-"""What the help of a command says, read from what it prints: that of the program solve_cli, and that of a command of the package. For help_pages.py."""
+"""What the help of a command says, read from what it prints: that of the program solve_cli, and that of a command of
+the package. For help_pages.py."""
 from __future__ import annotations
 
 import os
@@ -17,7 +18,8 @@ SECTIONS = {"positional arguments:": "arguments", "options:": "options", "option
 
 @dataclass
 class Row:
-    """An option with its names, `--long` last, or an argument; the name of its value, if it takes one, and what it is for."""
+    """An option with its names, `--long` last, or an argument; the name of its value, if it takes one, and what it is
+    for."""
     names: list[str]
     value: str
     text: str
@@ -25,7 +27,8 @@ class Row:
 
 @dataclass
 class Help:
-    """What the help of a command says: how it is called, what it is in a line, its text, what it has below it, its arguments and its options."""
+    """What the help of a command says: how it is called, what it is in a line, its text, what it has below it, its
+    arguments and its options."""
     usage: str = ""
     about: str = ""
     text: list[str] = field(default_factory=list)

@@ -1,7 +1,9 @@
-"""Where each crate is in the picture of the layers: rows, the order in a row, and the places of boxes and of lines between them.
+"""Where each crate is in the picture of the layers: rows, the order in a row, and the places of boxes and of lines
+between them.
 
-A row has the crates of one layer that are equally deep in it. A line that passes a row has a node there; all lines down to one crate
-share theirs, as a trunk. A node is a crate and a row: the crate itself in its own row, and its trunk in each row above.
+A row has the crates of one layer that are equally deep in it. A line that passes a row has a node there; all lines down
+to one crate share theirs, as a trunk. A node is a crate and a row: the crate itself in its own row, and its trunk in
+each row above.
 """
 from __future__ import annotations
 
@@ -144,7 +146,8 @@ class Layout:
                 for row in self.rows for node, offset in zip(row, self.offsets(row))}
 
     def wanted(self, node: Node) -> tuple[float, float]:
-        """The place that a node wants between its neighbours, and how much: a trunk wants to be straight above its crate."""
+        """The place that a node wants between its neighbours, and how much: a trunk wants to be straight above its
+        crate."""
         if not self.is_box(node):
             trunk = [it for it in self.x if it[0] == node[0]]
             return mean([self.x[it] for it in trunk], self.x[node]), 8.0

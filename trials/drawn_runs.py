@@ -1,4 +1,5 @@
-"""Runs of a program that draws problems, compares two answers to each, and prints its counts: for try_states.py and try_learning.py."""
+"""Runs of a program that draws problems, compares two answers to each, and prints its counts: for try_states.py and
+try_learning.py."""
 from __future__ import annotations
 
 import concurrent.futures
@@ -20,8 +21,8 @@ def counts_of(command: list[str], seed: int, problems: int, names: list[str]) ->
 
 
 def counted(command: list[str], doc: str, problems: int, at_once: int, names: list[str], short: Optional[int] = None) -> dict[str, int]:
-    """The sums of what a command counts, by name, over as many problems as the command line asks for, or else so many; with --short so
-    few, where there is such a word. The command's first word is a crate that is a program.
+    """The sums of what a command counts, by name, over as many problems as the command line asks for, or else so many;
+    with --short so few, where there is such a word. The command's first word is a crate that is a program.
 
     Each process draws so many at once; as many run side by side as there are processors.
     """

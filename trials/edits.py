@@ -16,8 +16,9 @@ def read(path: str) -> str:
 
 
 def edited(crate: str, bug: str) -> Optional[dict[str, str]]:
-    """The files that a bug changes, by their paths from the top, with their texts then; None where it no longer applies: its file
-    is missing, or one that it names, or an old text doesn't stand there exactly once, where the earlier ones are replaced."""
+    """The files that a bug changes, by their paths from the top, with their texts then; None where it no longer
+    applies: its file is missing, or one that it names, or an old text doesn't stand there exactly once, where the
+    earlier ones are replaced."""
     texts: dict[str, str] = {}
     file = old = ""
     try:

@@ -1,4 +1,5 @@
-"""What a trial expects: how much of it came, and how much didn't. For the scripts that end with 'N passed, M failed'."""
+"""What a trial expects: how much of it came, and how much didn't. For the scripts that end with 'N passed, M
+failed'."""
 from __future__ import annotations
 
 

@@ -3,12 +3,13 @@
 
     python3 trials/peer_puzzles.py [--program PROGRAM] [--times N] [KIND ..]
 
-Of dominosa, tents, shikaku, futoshiki, kenken and binairo, or of the kinds that are named, N puzzles of some sizes (10 where no number is given) are made by
-Debian's package sgt-puzzles, whose puzzles have one solution each and come with it. They are written as people write them; the answer of zarfepoch has
-to be that solution. The last line is 'N passed, M failed'.
+Of dominosa, tents, shikaku, futoshiki, kenken and binairo, or of the kinds that are named, N puzzles of some sizes (10
+where no number is given) are made by Debian's package sgt-puzzles, whose puzzles have one solution each and come with
+it. They are written as people write them; the answer of zarfepoch has to be that solution. The last line is 'N passed,
+M failed'.
 
-It wants the program, and the package: apt-get install sgt-puzzles. The exit status is 0 where all passed, 1 where something failed, 2 for a mistake on the
-command line, or where there is no program or no package.
+It wants the program, and the package: apt-get install sgt-puzzles. The exit status is 0 where all passed, 1 where
+something failed, 2 for a mistake on the command line, or where there is no program or no package.
 """
 from __future__ import annotations
 

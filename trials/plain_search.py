@@ -3,11 +3,11 @@
 
     python3 trials/plain_search.py FILE
 
-prints the outcome, the visits and the first cover of the empty prefix, by numbers of options from 0. It filters all options
-at each visit, as the definition says, and keeps no links. Two options clash where both name an item, and it is primary or they
-give it no equal colour (exact covering with colours, TAOCP 7.2.2.1). It reads the same files as the program, but trusts them:
-no refusal is made here but of a file without items or with others in its options. It wants no built program. The exit status is 0,
-or 2 for a mistake on the command line, or a file that can't be read or is refused.
+prints the outcome, the visits and the first cover of the empty prefix, by numbers of options from 0. It filters all
+options at each visit, as the definition says, and keeps no links. Two options clash where both name an item, and it is
+primary or they give it no equal colour (exact covering with colours, TAOCP 7.2.2.1). It reads the same files as the
+program, but trusts them: no refusal is made here but of a file without items or with others in its options. It wants no
+built program. The exit status is 0, or 2 for a mistake on the command line, or a file that can't be read or is refused.
 """
 from __future__ import annotations
 
@@ -61,7 +61,8 @@ def live_options(primary: int, options: list[Numbered], prefix: list[int]) -> li
 
 
 def branching(primary: int, options: list[Numbered], prefix: list[int]) -> Optional[list[int]]:
-    """The live options of the branch item, the first uncovered primary item with fewest of them; None where all are covered."""
+    """The live options of the branch item, the first uncovered primary item with fewest of them; None where all are
+    covered."""
     covered = {item for o in prefix for item in options[o]}
     live = live_options(primary, options, prefix)
     best = None

@@ -1,13 +1,16 @@
 #!/usr/bin/env python3
-"""Runs the program `learn` on random problems with secondary items and colours, and compares it with the plain search of `plain_search.py`.
+"""Runs the program `learn` on random problems with secondary items and colours, and compares it with the plain search
+of `plain_search.py`.
 
     python3 trials/try_any_cover.py [--problems N] [--seed N]
 
-Of N problems (default 2000) a cover has to be found where the plain search finds one, and else that there is none. Each cover is counted here. The
-problems are drawn so that about half have a cover, and each has a seed of its own for `learn`. It runs as many at once as there are processors.
+Of N problems (default 2000) a cover has to be found where the plain search finds one, and else that there is none. Each
+cover is counted here. The problems are drawn so that about half have a cover, and each has a seed of its own for
+`learn`. It runs as many at once as there are processors.
 
-It wants the program: (cd crates/solve_cli && rt run -- --version) builds it. The last line counts the problems, by outcome; the exit status is 0, 1
-where an answer is wrong, 2 for a mistake on the command line or where there is no program.
+It wants the program: (cd crates/solve_cli && rt run -- --version) builds it. The last line counts the problems, by
+outcome; the exit status is 0, 1 where an answer is wrong, 2 for a mistake on the command line or where there is no
+program.
 """
 from __future__ import annotations
 
@@ -25,7 +28,8 @@ AT_ONCE = 100
 
 
 def random_text(draw: random.Random) -> str:
-    """A problem of up to nine primary and four secondary items, whose options may give the latter one of three colours."""
+    """A problem of up to nine primary and four secondary items, whose options may give the latter one of three
+    colours."""
     primary = [f"p{k}" for k in range(draw.randint(2, 9))]
     secondary = [f"s{k}" for k in range(draw.randint(0, 4))]
     lines = [" ".join([*primary, "|", *secondary])]
@@ -39,7 +43,8 @@ def random_text(draw: random.Random) -> str:
 
 
 def is_cover(text: str, primary: int, options: list[Numbered], lines: list[str]) -> bool:
-    """Whether the lines of an answer are options of the problem, in its order, no two of which clash, and name each primary item."""
+    """Whether the lines of an answer are options of the problem, in its order, no two of which clash, and name each
+    primary item."""
     places: list[int] = []
     for line in lines:
         # (equal options are told apart by their places)

@@ -1,18 +1,20 @@
 #!/usr/bin/env python3
-"""Audits the books of real runs, as they are and with one entry changed at random, and compares the audit with one of its own.
+"""Audits the books of real runs, as they are and with one entry changed at random, and compares the audit with one of
+its own.
 
     python3 trials/try_audit.py [--short] [--changes N] [--runs N] [--seed N] [--program PATH] [FILE ..]
 
-Of each file, so many runs are made by `workbench audits`, which prints the books of all sites, and so many times the book of one site
-in which one entry was changed: an event left out, repeated, or put behind the next one, a packet with another bit, or the packet of
-another entry. This script reads the books as text and merges them in the plainest way: it goes round all books, takes each entry
-that delivers nothing or a packet that was put out, and ends where a round takes none. A later incarnation of a node waits for the
-earlier one.
+Of each file, so many runs are made by `workbench audits`, which prints the books of all sites, and so many times the
+book of one site in which one entry was changed: an event left out, repeated, or put behind the next one, a packet with
+another bit, or the packet of another entry. This script reads the books as text and merges them in the plainest way: it
+goes round all books, takes each entry that delivers nothing or a packet that was put out, and ends where a round takes
+none. A later incarnation of a node waits for the earlier one.
 
-The table has a row for each kind of change, of a delivery and of an event of the site's own: how many were tried, how many left the
-book as it was, how many were found clean and unclean, and in how many both audits differ. A clean one is lawful: a network may lose, repeat and
-reorder packets, and a site may choose what to do next. The exit status is 0 where both audits always agree, changes were tried and the
-unchanged books are clean, else 1, and 2 for a mistake on the command line or where there is no program.
+The table has a row for each kind of change, of a delivery and of an event of the site's own: how many were tried, how
+many left the book as it was, how many were found clean and unclean, and in how many both audits differ. A clean one is
+lawful: a network may lose, repeat and reorder packets, and a site may choose what to do next. The exit status is 0
+where both audits always agree, changes were tried and the unchanged books are clean, else 1, and 2 for a mistake on the
+command line or where there is no program.
 """
 from __future__ import annotations
 
@@ -61,7 +63,8 @@ def entry_of(event: str) -> Entry:
 
 
 def parts(lines: Iterable[str]) -> Iterator[tuple[list[str], Books, str]]:
-    """The printed books of each audit: what comes before (the words of a change, or none), the books, and what was found."""
+    """The printed books of each audit: what comes before (the words of a change, or none), the books, and what was
+    found."""
     change: list[str] = []
     books: Books = {}
     for line in lines:

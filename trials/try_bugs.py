@@ -15,9 +15,9 @@ crates below, so that only the bug's own crate is proved again, once for all of 
     PROVED              the crate is proved with the bug in it: a hole in a contract
     no longer applies   its text isn't exactly once in the file that it names, or can't be read then
 
-and a last line counts them. With --short nothing is proved: only those that no longer apply are named. Else it wants the toolchain's
-command `rt` on the path, and builds no program. The exit status is 1 if any was proved, else 2 if any no longer applies or couldn't be
-tried, else 0.
+and a last line counts them. With --short nothing is proved: only those that no longer apply are named. Else it wants
+the toolchain's command `rt` on the path, and builds no program. The exit status is 1 if any was proved, else 2 if any
+no longer applies or couldn't be tried, else 0.
 """
 from __future__ import annotations
 
@@ -53,7 +53,8 @@ def chosen_bugs(words: list[str]) -> dict[str, list[str]]:
 
 
 def left_to_tests(chosen: dict[str, list[str]], named: list[str]) -> list[str]:
-    """Takes out the bugs that tests find and that aren't named themselves, prints a line of each, and answers their kinds."""
+    """Takes out the bugs that tests find and that aren't named themselves, prints a line of each, and answers their
+    kinds."""
     found = [(f"{crate}/{bug}", TEST, f"{tests}, {test}") for crate, bug, tests, test in claims()]
     found += [(name, MEMORY, tests) for name, tests in STARVED.items()]
     found += [(name, BENCH, bench) for name, bench in BY_BENCH.items()]

@@ -1,12 +1,13 @@
 #!/usr/bin/env python3
-"""Reads changed bytes of packets, problems and answers by readers of its own, and compares what comes of them with the tests' tables.
+"""Reads changed bytes of packets, problems and answers by readers of its own, and compares what comes of them with the
+tests' tables.
 
     python3 trials/try_bytes.py [--print]
 
-Of each text below it takes each beginning, the text with each byte behind it, and the text with each other byte at each place, and counts
-how many are read, and how many have each fault. Of what is read it adds up some numbers, and of faults the lines. `cover_files.py` reads
-problems and answers, and `first_fault` here reads packets. The rows have to be in the tables of wire_tests and file_tests, which count the
-same by the code; --print prints them.
+Of each text below it takes each beginning, the text with each byte behind it, and the text with each other byte at each
+place, and counts how many are read, and how many have each fault. Of what is read it adds up some numbers, and of
+faults the lines. `cover_files.py` reads problems and answers, and `first_fault` here reads packets. The rows have to be
+in the tables of wire_tests and file_tests, which count the same by the code; --print prints them.
 
 It wants no program. The exit status is 0, 1 where a row isn't in its table, 2 for a mistake on the command line.
 """
@@ -166,7 +167,8 @@ def packet_row(text: bytes) -> list[int]:
 # ---- problems and answers
 
 def problem_row(text: bytes) -> list[int]:
-    """How many are read, and how many have each fault; the faults' lines; items, primary ones, options, nodes, colours, options ignored."""
+    """How many are read, and how many have each fault; the faults' lines; items, primary ones, options, nodes, colours,
+    options ignored."""
     row = [0] * (1 + len(FAULTS)) + [0] * 7
     for one in varied(text):
         problem = read_problem(one)
@@ -180,7 +182,8 @@ def problem_row(text: bytes) -> list[int]:
 
 
 def answer_row(file: bytes, text: bytes) -> list[int]:
-    """How many say a cover, and none, and how many have each fault; the faults' lines; each option by its place in the cover."""
+    """How many say a cover, and none, and how many have each fault; the faults' lines; each option by its place in the
+    cover."""
     problem, row = read_problem(file), [0] * 7
     for one in varied(text):
         answer = read_answer(one, problem)

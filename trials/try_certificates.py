@@ -1,17 +1,20 @@
 #!/usr/bin/env python3
-"""Writes certificates of random problems without a cover, and has them checked by the program and by check_certificate.py.
+"""Writes certificates of random problems without a cover, and has them checked by the program and by
+check_certificate.py.
 
     python3 trials/try_certificates.py [COUNT]
 
-A plain search in this script writes them: by cases, with kept cases, jumps, dropped cases and reasons where these are found, and by clauses, one for
-each case, some of which are forgotten. Two more are written by the program, by `alone` and by `answer`. Of so many random problems without a cover
-(default 300) both checkers have to accept all four. In copies some lines or words are changed: both have to say the same of it, and to name the same
-line. Of as many problems with a cover all that is tried has to be refused: certificates of the problem without an option of the cover, with the
-counts of the whole one, and copies of them in which lines or words are changed. Whether there is a cover says the search of `plain_search.py`.
+A plain search in this script writes them: by cases, with kept cases, jumps, dropped cases and reasons where these are
+found, and by clauses, one for each case, some of which are forgotten. Two more are written by the program, by `alone`
+and by `answer`. Of so many random problems without a cover (default 300) both checkers have to accept all four. In
+copies some lines or words are changed: both have to say the same of it, and to name the same line. Of as many problems
+with a cover all that is tried has to be refused: certificates of the problem without an option of the cover, with the
+counts of the whole one, and copies of them in which lines or words are changed. Whether there is a cover says the
+search of `plain_search.py`.
 
-It wants the programs check_certificate and solve_cli: (cd crates/check_certificate && rt run) and (cd crates/solve_cli && rt run -- --version) build
-them. The last line is 'N passed, M failed'. The exit status is 0 where all passed, 1 where something failed, 2 for a mistake on the command line or where
-there is no program.
+It wants the programs check_certificate and solve_cli: (cd crates/check_certificate && rt run) and (cd crates/solve_cli
+&& rt run -- --version) build them. The last line is 'N passed, M failed'. The exit status is 0 where all passed, 1
+where something failed, 2 for a mistake on the command line or where there is no program.
 """
 from __future__ import annotations
 
@@ -50,8 +53,9 @@ class Writer:
         return {option for option in live if items.intersection(self.options[option])}
 
     def reason(self, live: set[int], free: set[int]) -> Optional[tuple[str, set[int]]]:
-        """The line of a reason that holds of a case, and its items: an odd number of them, of which each live option has an even number, or more
-        than there are secondary items of which each live option with one of them has one."""
+        """The line of a reason that holds of a case, and its items: an odd number of them, of which each live option
+        has an even number, or more than there are secondary items of which each live option with one of them has
+        one."""
         rooms = [item for item in range(self.primary, self.items) if item not in self.coloured]
         for size in range(1, min(len(free), 5) + 1):
             for some in itertools.combinations(sorted(free), size):
@@ -106,7 +110,8 @@ class Writer:
 
 
 class ClauseWriter:
-    """Refutes a problem without a cover by a plain search, and writes of each case that one of its chosen options is left."""
+    """Refutes a problem without a cover by a plain search, and writes of each case that one of its chosen options is
+    left."""
 
     def __init__(self, draw: random.Random, primary: int, options: list[Numbered]) -> None:
         self.draw, self.primary, self.options = draw, primary, options
@@ -143,7 +148,8 @@ def certificates(draw: random.Random, text: str) -> list[list[str]]:
 
 
 def searched(folder: str, text: str, *words: str) -> tuple[list[str], tuple[bytes, bytes, int]]:
-    """The lines of the certificate that the program's own search writes, or with a word another command's, if any, and what the run comes to."""
+    """The lines of the certificate that the program's own search writes, or with a word another command's, if any, and
+    what the run comes to."""
     file, path = (os.path.join(folder, name) for name in ("searched", "written"))
     with open(file, "w", encoding="ascii") as opened:
         opened.write(text)
@@ -174,7 +180,8 @@ def with_other_words(draw: random.Random, line: str) -> str:
 
 
 def changed(draw: random.Random, lines: list[str]) -> list[str]:
-    """The lines with one to three of them left out, repeated, replaced by another one, or with another number or word."""
+    """The lines with one to three of them left out, repeated, replaced by another one, or with another number or
+    word."""
     lines = list(lines)
     clauses = lines[1].startswith("clauses")
     for _ in range(draw.randint(1, 3)):
@@ -255,7 +262,8 @@ def try_without_cover(folder: str, draw: random.Random, text: str) -> None:
 
 
 def try_with_cover(folder: str, draw: random.Random, text: str) -> None:
-    """Certificates of the problem without the options of its covers, one after the other, with the counts of the whole one."""
+    """Certificates of the problem without the options of its covers, one after the other, with the counts of the whole
+    one."""
     lines, came = searched(folder, text, *draw.choice(((), ("answer",))))
     expect(f"a cover has no certificate: {came}, {lines}, of\n{text}", came[2] == 0 and not lines and b"certificate" not in came[1])
     head, *options = text.splitlines()

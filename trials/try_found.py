@@ -3,17 +3,19 @@
 
     python3 trials/try_found.py [--short | --memory] [--at-once N] [CRATE/BUG ..]
 
-The first lines of a test's file say "Of the bugs of `CRATE` that are kept outside the gate, `TEST` finds `BUG`". Without words all
-of these bugs are tried, each in a copy of the repository and without proofs: it takes two minutes each. Of each bug one line says
+The first lines of a test's file say "Of the bugs of `CRATE` that are kept outside the gate, `TEST` finds `BUG`".
+Without words all of these bugs are tried, each in a copy of the repository and without proofs: it takes two minutes
+each. Of each bug one line says
 
     found: TEST        the test fails
     NOT FOUND: TEST    the test passes with the bug in the code
     not tried: TEST    the bug no longer applies or compiles, or the test did not end
 
-and a last line counts them. With --memory the bugs are those that only `try_memory.py` finds: the tests are proved and built with each
-bug, which takes five to fifteen minutes, and then refused memory. With --short nothing is run: only those that no longer apply are named, and
-none that applies and no longer compiles. Else it wants the toolchain's command `rt` on the path, and with --memory cc. The exit status is 1 if any was
-not found, else 2 if any could not be tried, else 0.
+and a last line counts them. With --memory the bugs are those that only `try_memory.py` finds: the tests are proved and
+built with each bug, which takes five to fifteen minutes, and then refused memory. With --short nothing is run: only
+those that no longer apply are named, and none that applies and no longer compiles. Else it wants the toolchain's
+command `rt` on the path, and with --memory cc. The exit status is 1 if any was not found, else 2 if any could not be
+tried, else 0.
 """
 from __future__ import annotations
 
@@ -34,8 +36,8 @@ from edits import edited, name_stale
 from try_memory import BUGS as STARVED
 
 FOUND, MISSED, UNTRIED = "found", "NOT FOUND", "not tried"
-# The bugs outside the gate that cost time or memory alone, so that no contract refuses them and no test finds them: each with the
-# bound that it breaks.
+# The bugs outside the gate that cost time or memory alone, so that no contract refuses them and no test finds them:
+# each with the bound that it breaks.
 SLOW = {
     "audit/the_digest_is_constant": "bench/bounds.py audit-length",
     "audit/the_path_forgets": "bench/bounds.py audit-books",
@@ -94,7 +96,8 @@ def tried(claim: Claim) -> str:
 
 
 def tried_without_memory(claim: Claim) -> str:
-    """What came of a bug, by tests that are refused memory. They pass where they aren't, so they are proved and built."""
+    """What came of a bug, by tests that are refused memory. They pass where they aren't, so they are proved and
+    built."""
     crate, bug, tests, _ = claim
     with copy_with(crate, bug, "incremental") as top:
         if not top:

@@ -3,11 +3,11 @@
 
     python3 trials/try_learning.py [--problems N] [--seed N]
 
-It runs the program learn_trials over N random problems (default 100000), in as many processes as there are processors. A learner has to
-find a cover where there is one, and else that there is none.
+It runs the program learn_trials over N random problems (default 100000), in as many processes as there are processors.
+A learner has to find a cover where there is one, and else that there is none.
 
-It wants the program: (cd crates/learn_trials && rt run) builds it. The exit status is 0, 1 where two answers differ, 2 for a mistake
-on the command line or where there is no program.
+It wants the program: (cd crates/learn_trials && rt run) builds it. The exit status is 0, 1 where two answers differ, 2
+for a mistake on the command line or where there is no program.
 """
 from __future__ import annotations
 

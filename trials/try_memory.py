@@ -3,9 +3,10 @@
 
     python3 trials/try_memory.py [--list | --short] [CRATE ..]
 
-The tests whose names begin with `refused_memory` mark where a call begins and ends. `refuse_growth.c`, which is built here and loaded
-before the C library, counts the growths between these marks and refuses one. Then the call has to answer `Memory`, with
-all as it was before, and the same call, made again, has to give what the test's row says. Each growth of each call is refused once.
+The tests whose names begin with `refused_memory` mark where a call begins and ends. `refuse_growth.c`, which is built
+here and loaded before the C library, counts the growths between these marks and refuses one. Then the call has to
+answer `Memory`, with all as it was before, and the same call, made again, has to give what the test's row says. Each
+growth of each call is refused once.
 
 - core_tests plays the scripts of node and registry, with one list of packets (`act`) and with two (`act_both`): each event is a call.
 - table_tests splits units. One whose children fit into the last page has to go well whatever is refused: it asks for no memory.
@@ -18,12 +19,12 @@ all as it was before, and the same call, made again, has to give what the test's
 - wire_tests reads packets.
 - clause_tests takes the first clauses of problems, and learns more.
 
-For each kind of call the table has how many growths it takes, the least and the most, and with two lists too, how many were refused,
-how many of these the call answered with `Memory`, and how many runs went wrong. --list only lists the calls with their
-growths, and refuses none; --short refuses every seventh growth of a test.
+For each kind of call the table has how many growths it takes, the least and the most, and with two lists too, how many
+were refused, how many of these the call answered with `Memory`, and how many runs went wrong. --list only lists the
+calls with their growths, and refuses none; --short refuses every seventh growth of a test.
 
-It wants cc and the built tests: rt test in the folders of these crates builds them, and so does rt ci. The exit status is 0, 1 where a
-run went wrong, 2 for a mistake on the command line or where something is missing.
+It wants cc and the built tests: rt test in the folders of these crates builds them, and so does rt ci. The exit status
+is 0, 1 where a run went wrong, 2 for a mistake on the command line or where something is missing.
 """
 from __future__ import annotations
 
@@ -51,8 +52,8 @@ KINDS += [("spawn", "table"), ("spawn within a page", "table"), ("GiveMany", COR
 # Two more, between the numbers of the others.
 CLAUSES = {98: "learn", 99: "first clauses"}
 SHORT = 7
-# The bugs outside the gate that no contract refuses and no test finds but where memory is refused, each with the tests that find it:
-# what was refused memory once is refused it for ever.
+# The bugs outside the gate that no contract refuses and no test finds but where memory is refused, each with the tests
+# that find it: what was refused memory once is refused it for ever.
 BUGS = {
     "brancher/memory_stays_refused": "search_tests",
     "node_core/greeting_stays_refused": CORES,
@@ -62,8 +63,8 @@ BUGS = {
 
 
 class Told(NamedTuple):
-    """What is told of a call: its kind, where it was, whether packets went to two lists, the growths that it asked for, which of them
-    was refused, or 0, and whether it was answered by want of memory."""
+    """What is told of a call: its kind, where it was, whether packets went to two lists, the growths that it asked for,
+    which of them was refused, or 0, and whether it was answered by want of memory."""
     kind: str
     place: str
     both: bool

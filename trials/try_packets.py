@@ -1,15 +1,18 @@
 #!/usr/bin/env python3
-"""Offers packets to all sites at each moment of the worked runs, by a plain model of the protocol, and compares with a test's table.
+"""Offers packets to all sites at each moment of the worked runs, by a plain model of the protocol, and compares with a
+test's table.
 
     python3 trials/try_packets.py [--print]
 
-The model keeps to docs/PROTOCOL.md and shares no code with the crates. It plays the five worked runs of two nodes, whose last
-packets and published answer it tests. At each moment each packet of OFFERED is delivered to the registry and to both nodes, each time
-from the same moment on. What comes of it is one character: how many packets are put out where it moved something, `-` where it is
-ignored, and for a refusal `s` OtherSite, `o` Over, `n` NamesSpent, `c` BadCover, `p` BadPrefix. A row has those of all packets, and the
-moment from which on it is so. The table of core_tests, which does the same by the code, has to have these rows; --print prints them.
+The model keeps to docs/PROTOCOL.md and shares no code with the crates. It plays the five worked runs of two nodes,
+whose last packets and published answer it tests. At each moment each packet of OFFERED is delivered to the registry and
+to both nodes, each time from the same moment on. What comes of it is one character: how many packets are put out where
+it moved something, `-` where it is ignored, and for a refusal `s` OtherSite, `o` Over, `n` NamesSpent, `c` BadCover,
+`p` BadPrefix. A row has those of all packets, and the moment from which on it is so. The table of core_tests, which
+does the same by the code, has to have these rows; --print prints them.
 
-It wants no program. The exit status is 0, 1 where a row isn't in the table or a run ends otherwise, 2 for a mistake on the command line.
+It wants no program. The exit status is 0, 1 where a row isn't in the table or a run ends otherwise, 2 for a mistake on
+the command line.
 """
 from __future__ import annotations
 
@@ -30,7 +33,8 @@ REGISTRY, ONE, TWO, TWO_AGAIN = (0, 1), (1, 1), (2, 1), (2, 2)
 ROOT, ROOT_REDONE, STOLEN = ((REGISTRY, 0), 1), ((REGISTRY, 0), 2), ((ONE, 0), 1)
 
 
-# a node and an incarnation; a guest by its owner, serial and attempt; a unit that is a guest, or an own child by its serial; and a packet
+# a node and an incarnation; a guest by its owner, serial and attempt; a unit that is a guest, or an own child by its
+# serial; and a packet
 Site = tuple[int, int]
 Guest = tuple[tuple[Site, int], int]
 Name = Union[int, Guest]

@@ -1,12 +1,14 @@
 #!/usr/bin/env python3
-"""Runs the built program on the examples, on bad input, on failing outputs, installed and from Python, and compares what it writes.
+"""Runs the built program on the examples, on bad input, on failing outputs, installed and from Python, and compares
+what it writes.
 
     python3 trials/try_program.py [PROGRAM]
 
-It wants cc and the program, which is crates/solve_cli/out/solve_cli where none is named: (cd crates/solve_cli && rt run -- --version) builds that.
-Each cover of an example is given back to `check`, and counted here once more. Of some runs of `solve`, `record_sends.c`, which is built here and
-loaded before the C library, notes the packets that they send. The last line is 'N passed, M failed'. The exit status is 0 where all passed, 1 where
-something failed, 2 for a mistake on the command line or where there is no program.
+It wants cc and the program, which is crates/solve_cli/out/solve_cli where none is named: (cd crates/solve_cli && rt run
+-- --version) builds that. Each cover of an example is given back to `check`, and counted here once more. Of some runs
+of `solve`, `record_sends.c`, which is built here and loaded before the C library, notes the packets that they send. The
+last line is 'N passed, M failed'. The exit status is 0 where all passed, 1 where something failed, 2 for a mistake on
+the command line or where there is no program.
 """
 from __future__ import annotations
 
@@ -107,7 +109,8 @@ def examples(folder: str) -> None:
         expect(name + " wrong answer", out.startswith(b"wrong: ") and status == 1)
 
 
-# the edges of a triangle in two colours: only with the colours' places primary, which each cover would use, weights show that there is none
+# the edges of a triangle in two colours: only with the colours' places primary, which each cover would use, weights
+# show that there is none
 JUST_ENOUGH = "ab ac bc | ra rb rc ua ub uc\nab ra rb\nab ua ub\nac ra rc\nac ua uc\nbc rb rc\nbc ub uc\n"
 # two lessons in a room that has one lamp: once the one is chosen, no option is left for the other
 LAMP = "maths art | lamp\nmaths lamp:red\nmaths lamp:blue\nart lamp:green\n"
@@ -116,7 +119,8 @@ CERTIFYING = {("learn",): "'d' and a number, or literals and hints", ("alone", "
 
 
 def certificates(folder: str) -> None:
-    """A certificate is written where there is no cover, tested by the program and by a script, and there is none else."""
+    """A certificate is written where there is no cover, tested by the program and by a script, and there is none
+    else."""
     for words, expected in CERTIFYING.items():
         for name in ("letters.dlx", "langford-5.dlx", "tetrominoes-4x5.dlx"):
             certified(folder, name, words, expected)
@@ -152,7 +156,8 @@ def answered_certificates(folder: str) -> None:
     os.mkdir(folder)
     path = os.path.join(folder, "out")
     right = f"certificate right: {path}\n".encode()
-    # (within a tenth of a second the search decides; of the boards there is a reason, and pigeons without one are sooner learned than searched)
+    # (within a tenth of a second the search decides; of the boards there is a reason, and pigeons without one are
+    # sooner learned than searched)
     for file, words in ((os.path.join(TOP, "examples", "langford-5.dlx"), b"cases"), (board(folder, 18), b"cases")):
         expect(f"{file} answered and certified", run("answer", file, "--certificate", path) == (b"none\n", right, 1))
         expect(f"{file} by its lines", content(path).split(b"\n")[1].startswith(words) and run("check", file, path) == (b"right\n", b"", 0))
@@ -233,7 +238,8 @@ def killed_certificate(folder: str) -> None:
 
 
 def piped_certificates(folder: str) -> None:
-    """A pipe gets the lines as they are written, and a file that is standard output is replaced by a whole certificate."""
+    """A pipe gets the lines as they are written, and a file that is standard output is replaced by a whole
+    certificate."""
     os.mkdir(folder)
     langford, device = os.path.join(TOP, "examples", "langford-5.dlx"), "/dev/stdout"
     untested = f"certificate not tested: {device}\n".encode()
@@ -402,7 +408,8 @@ def learning(folder: str) -> None:
 
 
 def reasoned(folder: str) -> None:
-    """What `answer --reason` writes behind an answer: whose lines stay as they are; a reason as `why` writes it; nothing where there is no answer."""
+    """What `answer --reason` writes behind an answer: whose lines stay as they are; a reason as `why` writes it;
+    nothing where there is no answer."""
     for name in sorted(NONE | {"letters.dlx", "ignored.dlx"}):
         file = os.path.join(TOP, "examples", name)
         plain, (out, errors, status) = run("answer", file), run("answer", file, "--reason")
@@ -453,8 +460,8 @@ def sent_in(file: str) -> list[Sent]:
 
 
 def sends_of(folder: str, is_enough: Callable[[list[Sent]], bool], *words: str) -> list[Sent]:
-    """The packets that a run of `solve` on a search of years has sent when they are enough, or when it has ended. A job has no end in it, so the
-    other workers do nothing but ask."""
+    """The packets that a run of `solve` on a search of years has sent when they are enough, or when it has ended. A job
+    has no end in it, so the other workers do nothing but ask."""
     file = os.path.join(folder, "sends")
     if os.path.exists(file):
         os.remove(file)
@@ -485,7 +492,8 @@ def packets_of_solve(folder: str) -> None:
 
 
 def options_of_solve(folder: str) -> None:
-    """Each option of `solve` reaches the run: by its sockets, threads and packets, by the reason of an end, or by what is written."""
+    """Each option of `solve` reaches the run: by its sockets, threads and packets, by the reason of an end, or by what
+    is written."""
     sockets, threads = sites_of("--nodes", "2", "--workers", "1")
     more_sockets, more_threads = sites_of("--nodes", "3", "--workers", "1")
     expect("--nodes", (sockets, more_sockets) == (3, 4) and more_threads > threads)
@@ -604,7 +612,8 @@ def from_python() -> None:
 
 
 def help_on(output: Union[int, IO[bytes]], *words: str) -> tuple[int, str]:
-    """The status of a script that writes its help on this output, and its standard error; its output is buffered, as it is for users."""
+    """The status of a script that writes its help on this output, and its standard error; its output is buffered, as it
+    is for users."""
     buffered = {name: text for name, text in os.environ.items() if name != "PYTHONUNBUFFERED"}
     ended = subprocess.run([sys.executable, *words, "--help"], stdout=output, stderr=subprocess.PIPE, env=buffered, text=True)
     return ended.returncode, ended.stderr
@@ -624,8 +633,8 @@ def board(folder: str, side: int) -> str:
 
 
 def many_visits(folder: str) -> None:
-    """A search of 10^15 visits ends, since few of its states differ, and its count is exact: with one visit less there is
-    no answer. A count in C gave the visits, state by state."""
+    """A search of 10^15 visits ends, since few of its states differ, and its count is exact: with one visit less there
+    is no answer. A count in C gave the visits, state by state."""
     path = board(folder, 12)
     visits = 1_455_115_025_598_703
     expect("as many visits as it takes", run("alone", path, "--fuel", str(visits)) == (b"none\n", b"", 1))
@@ -634,7 +643,8 @@ def many_visits(folder: str) -> None:
 
 
 def helps() -> None:
-    """Each script that can be run writes its help, so that all it imports is there, and so do the package's commands, by the launcher of a clone."""
+    """Each script that can be run writes its help, so that all it imports is there, and so do the package's commands,
+    by the launcher of a clone."""
     paths = [path for folder in ("trials", "dev", "bench") for path in sorted(glob.glob(os.path.join(TOP, folder, "*.py")))]
     tools = [[LAUNCHER, *name.split("-", 1)[1:]] for name in COMMANDS[1:]]
     for words in [*([path] for path in paths if os.access(path, os.X_OK)), *tools]:

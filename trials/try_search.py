@@ -3,10 +3,11 @@
 
     python3 trials/try_search.py [--short] [COUNT]
 
-For each of so many problems (default 600; 100 with --short) the answer has to be the plain search's first cover, or that there is none. With as much
-fuel as the plain search has visits it has to be the same, and with one less `no answer`. It wants the program:
-(cd crates/solve_cli && rt run -- --version) builds it. The last line counts the problems, by outcome; the exit status is 0, 1 where a problem
-differs, or 2 for a mistake on the command line or where the program is missing.
+For each of so many problems (default 600; 100 with --short) the answer has to be the plain search's first cover, or
+that there is none. With as much fuel as the plain search has visits it has to be the same, and with one less
+`no answer`. It wants the program: (cd crates/solve_cli && rt run -- --version) builds it. The last line counts the
+problems, by outcome; the exit status is 0, 1 where a problem differs, or 2 for a mistake on the command line or where
+the program is missing.
 """
 from __future__ import annotations
 
@@ -21,7 +22,8 @@ from plain_search import read, search
 
 
 def random_text(draw: random.Random) -> str:
-    """A problem of up to six primary and five secondary items, whose options may give the latter one of three colours."""
+    """A problem of up to six primary and five secondary items, whose options may give the latter one of three
+    colours."""
     primary = [f"p{k}" for k in range(draw.randint(1, 6))]
     secondary = [f"s{k}" for k in range(draw.randint(1, 5))]
     options = []

@@ -3,27 +3,32 @@
 
     python3 trials/try_shortage.py [--short] [--growths N] [--limit SECONDS]
 
-The small problem with one cover is solved. First, with the usual four nodes of two workers, so many threads can be started as the table
-says, from none to all. Then one growth of memory is refused: with one node of one worker each growth of a run in turn, and with eight
-workers N (100) of them, spread over a run. Then, with eight workers, all growths are refused from one of them on, in a quarter as many
-runs. `refuse_growth.c`, which is built here and loaded before the C library, refuses them. Each answer has to be the right one. A run has to
-end within the limit (60 seconds). Where memory ran out and there is no answer, the status has to be 5 and standard error has to say so; but
-a thread whose growth is refused at its start is one that can't be started, and then status 4 is right, too.
+The small problem with one cover is solved. First, with the usual four nodes of two workers, so many threads can be
+started as the table says, from none to all. Then one growth of memory is refused: with one node of one worker each
+growth of a run in turn, and with eight workers N (100) of them, spread over a run. Then, with eight workers, all
+growths are refused from one of them on, in a quarter as many runs. `refuse_growth.c`, which is built here and loaded
+before the C library, refuses them. Each answer has to be the right one. A run has to end within the limit (60 seconds).
+Where memory ran out and there is no answer, the status has to be 5 and standard error has to say so; but a thread whose
+growth is refused at its start is one that can't be started, and then status 4 is right, too.
 
-`answer` is run with no, one and two further threads, and with each growth refused, and all from each on, in as many runs: it ends with the answer, since
-its search needs no further thread, or where memory was refused with status 5. So is `learn`.
+`answer` is run with no, one and two further threads, and with each growth refused, and all from each on, in as many
+runs: it ends with the answer, since its search needs no further thread, or where memory was refused with status 5. So
+is `learn`.
 
-Then `answer`, `alone` and `learn` write a certificate of a problem without a cover, with each growth refused. Their answer is `none` or, with status 5,
-nothing; `certificate right` is said of a file just if there is one that `check` calls right; and no part of a certificate is left beside it.
+Then `answer`, `alone` and `learn` write a certificate of a problem without a cover, with each growth refused. Their
+answer is `none` or, with status 5, nothing; `certificate right` is said of a file just if there is one that `check`
+calls right; and no part of a certificate is left beside it.
 
-Then the address space of `answer` and `learn` is limited, down to what the program begins with: there is no room for the stack of a further thread.
-The problem takes `answer` longer than its search has for itself, so that all lanes begin if they can.
+Then the address space of `answer` and `learn` is limited, down to what the program begins with: there is no room for
+the stack of a further thread. The problem takes `answer` longer than its search has for itself, so that all lanes begin
+if they can.
 
-Last it is solved in a network namespace without a loopback device, where the system allows one: status 3 and `cannot bind` within a second.
+Last it is solved in a network namespace without a loopback device, where the system allows one: status 3 and
+`cannot bind` within a second.
 
---short refuses 25 growths where else it would be each or a hundred, and three numbers of threads. It wants cc and the program:
-(cd crates/solve_cli && rt run -- --version) builds it. The exit status is 0, 1 where a run went wrong, 2 for a mistake on the command line or where
-something is missing.
+--short refuses 25 growths where else it would be each or a hundred, and three numbers of threads. It wants cc and the
+program: (cd crates/solve_cli && rt run -- --version) builds it. The exit status is 0, 1 where a run went wrong, 2 for a
+mistake on the command line or where something is missing.
 """
 from __future__ import annotations
 
@@ -105,13 +110,15 @@ class Trial:
         print(f"wrong: status {ended.status}, {ended.text!r}, {ended.why!r}, {ended.seconds:.1f} s")
 
     def growths(self) -> tuple[int, int, list[int]]:
-        """How many growths the last run asked for, the place that asked for the refused one, and the places that ask for a thread's."""
+        """How many growths the last run asked for, the place that asked for the refused one, and the places that ask
+        for a thread's."""
         with open(self.count, encoding="ascii") as file:
             count, refused, *starts = map(int, file.read().split())
         return count, refused, starts
 
     def judge(self, ended: Ended, memory: bool) -> None:
-        """Counts a run that went wrong, and prints how. Without `memory` there may be no answer since threads can't be started."""
+        """Counts a run that went wrong, and prints how. Without `memory` there may be no answer since threads can't be
+        started."""
         is_answer = ended.status == 0 and (ended.text == ANSWER or REASONED.fullmatch(ended.text))
         is_unanswered = ended.status == 4 and ended.text == "no answer\n" and not memory
         is_refused = memory and ended.status == 5 and "out of memory" in ended.why and not ended.text
@@ -183,7 +190,8 @@ def langford(folder: str, pairs: int) -> str:
 
 
 def spaces(trial: Trial, mode: str, words: Sequence[str], pairs: int, megabytes: Sequence[int]) -> None:
-    """Runs on Langford pairs, which there aren't, in so much address space, as rows of a table: each says so, or that memory ran out."""
+    """Runs on Langford pairs, which there aren't, in so much address space, as rows of a table: each says so, or that
+    memory ran out."""
     with tempfile.TemporaryDirectory(prefix="try-shortage-") as folder:
         file = langford(folder, pairs)
         for most in megabytes:

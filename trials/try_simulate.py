@@ -3,13 +3,14 @@
 
     python3 trials/try_simulate.py [--short] [SEEDS]
 
-Each file of examples/ is searched by simulated worlds of four nodes, for each seed (20 where no number is given, one with --short) with searches
-of 1, 10 and 1,000 visits, without restarts and with five. Every answer is given to `check`, which has to call it right. A table
-tells, file by file, in how many of the runs an answer was published within 10,000 turns, without the closing phase, and the
-turns and packets that the middle one of these took.
+Each file of examples/ is searched by simulated worlds of four nodes, for each seed (20 where no number is given, one
+with --short) with searches of 1, 10 and 1,000 visits, without restarts and with five. Every answer is given to `check`,
+which has to call it right. A table tells, file by file, in how many of the runs an answer was published within 10,000
+turns, without the closing phase, and the turns and packets that the middle one of these took.
 
-It wants two programs: (cd crates/solve_cli && rt run -- --version) and (cd crates/workbench && rt run) build them. The exit status is 0
-where every answer is right, 1 where one is wrong, 2 for a mistake on the command line or where a program is missing.
+It wants two programs: (cd crates/solve_cli && rt run -- --version) and (cd crates/workbench && rt run) build them. The
+exit status is 0 where every answer is right, 1 where one is wrong, 2 for a mistake on the command line or where a
+program is missing.
 """
 from __future__ import annotations
 

@@ -3,17 +3,17 @@
 
     python3 trials/try_solve.py [--short] [--times N] [--nodes N] [--workers N] [--fuel N] [--limit SECONDS] [--audit] [FILE ..]
 
-Each problem is solved so many times by nodes with threads of their own. Every answer is given to `check`, which has to call it
-right, and of the two small problems the answer's text is known. With no turns at all there has to be no answer. A table tells,
-problem by problem, how many runs answered, how many were wrong, and the least, the middle and the greatest time in seconds. With
---audit each run is audited, and one whose audit isn't clean is wrong.
+Each problem is solved so many times by nodes with threads of their own. Every answer is given to `check`, which has to
+call it right, and of the two small problems the answer's text is known. With no turns at all there has to be no answer.
+A table tells, problem by problem, how many runs answered, how many were wrong, and the least, the middle and the
+greatest time in seconds. With --audit each run is audited, and one whose audit isn't clean is wrong.
 
-Where no file is named, the two small problems and three of the examples are solved once more with 0, 1, 3 and 100 restarts of the
-first node, and with so few turns that restarts fall into the runs.
+Where no file is named, the two small problems and three of the examples are solved once more with 0, 1, 3 and 100
+restarts of the first node, and with so few turns that restarts fall into the runs.
 
-It wants the program: (cd crates/solve_cli && rt run -- --version) builds it. The exit status is 0 where no run was wrong (one without an
-answer is none), 1 where one was or took longer than the limit, or where a problem was never answered without restarts, 2 for a mistake
-on the command line or where there is no program.
+It wants the program: (cd crates/solve_cli && rt run -- --version) builds it. The exit status is 0 where no run was
+wrong (one without an answer is none), 1 where one was or took longer than the limit, or where a problem was never
+answered without restarts, 2 for a mistake on the command line or where there is no program.
 """
 from __future__ import annotations
 
@@ -39,7 +39,8 @@ SMALL = [
 RESTARTED = ["mutilated-chessboard.dlx", "pentominoes-6x10.dlx", "queens-8.dlx"]
 RESTARTS = ["0", "1", "3", "100"]
 FEW_TURNS = "5000"
-# a problem's name, file and answer, where that is known; a run's seconds, whether there was an answer, and whether it was wrong
+# a problem's name, file and answer, where that is known; a run's seconds, whether there was an answer, and whether it
+# was wrong
 Row = tuple[str, str, Optional[str]]
 Seen = tuple[float, bool, bool]
 

@@ -3,12 +3,12 @@
 
     python3 trials/try_states.py [--short] [--problems N] [--seed N]
 
-It runs `workbench states` over N random problems (default 50000; 4000 with --short), in as many processes as there are processors. Outcome, first
-cover and visits of each prefix that is searched have to be the same with states kept and without; the fuels are the visits, one
-visit less, and numbers that are drawn.
+It runs `workbench states` over N random problems (default 50000; 4000 with --short), in as many processes as there are
+processors. Outcome, first cover and visits of each prefix that is searched have to be the same with states kept and
+without; the fuels are the visits, one visit less, and numbers that are drawn.
 
-It wants the program: (cd crates/workbench && rt run) builds it. The exit status is 0, 1 where two searches differ, 2 for a mistake
-on the command line or where there is no program.
+It wants the program: (cd crates/workbench && rt run) builds it. The exit status is 0, 1 where two searches differ, 2
+for a mistake on the command line or where there is no program.
 """
 from __future__ import annotations
 

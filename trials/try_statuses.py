@@ -1,12 +1,15 @@
 #!/usr/bin/env python3
-"""Runs whole command lines of the program on small files, one after the other in one folder, and compares their exit statuses.
+"""Runs whole command lines of the program on small files, one after the other in one folder, and compares their exit
+statuses.
 
     python3 trials/try_statuses.py [--program PATH]
 
-Of what a run writes nothing is compared: engines' tests and `try_program.py` do that. A certificate that one line writes is tested by the next.
+Of what a run writes nothing is compared: engines' tests and `try_program.py` do that. A certificate that one line
+writes is tested by the next.
 
-It wants the program: (cd crates/solve_cli && rt run -- --version) builds it. The last line is 'N passed, M failed'. The exit status is 0 where all passed,
-1 where something failed, 2 for a mistake on the command line or where there is no program.
+It wants the program: (cd crates/solve_cli && rt run -- --version) builds it. The last line is 'N passed, M failed'. The
+exit status is 0 where all passed, 1 where something failed, 2 for a mistake on the command line or where there is no
+program.
 """
 from __future__ import annotations
 
@@ -18,7 +21,8 @@ import tempfile
 from built import SOLVE_CLI, parser_of, path_of, want_program
 from expected import Trial
 
-# the files of the folder: a problem with a cover, one without, an answer of each kind, and a certificate for the second problem
+# the files of the folder: a problem with a cover, one without, an answer of each kind, and a certificate for the second
+# problem
 FILES = {
     "p.dlx": "a\na\n",
     "q.dlx": "a b\na\n",

@@ -1,26 +1,30 @@
 #!/usr/bin/env python3
-"""Attacks a running `solve` from sockets that are none of its own, and says whether its answers stay right: a run hears only what carries its key.
+"""Attacks a running `solve` from sockets that are none of its own, and says whether its answers stay right: a run hears
+only what carries its key.
 
     python3 trials/try_strangers.py [--short] [--times N] [--limit SECONDS] [--length SECONDS] [--program PATH] [--problem FILE] [--only NAME] [--audit]
 
-The ports of a run are in /proc/net/udp, which every process of the machine may read. To each of them each attack sends its packets, well
-formed and with the names that sites of a run have, for a second from the run's begin, or until its end: that a node asks for work and found
-the root without a cover (`steal and return`), that the search is over (`over`), that the root is given up (`abort`), that sites have
-restarted with the greatest incarnation (`hello`, `members`), one byte (`a byte now and then`), the same as fast as it goes (`flood of
-bytes`), and packets of random bytes (`flood of noise`). Three more send what `steal and return` does: from 127.0.0.2, by the port of a site
-(`from another host`), the same with the source 127.0.0.1, which any process may name (`forged source`), and before the run has all its sockets, from
-ports that it binds a moment later (`before all are bound`): that one is in a network namespace with eight ports, and left out where no such
-namespace can be had. The first and the last of these three were of use only while runs compared addresses. One more sends all that an earlier run sent, with its codes (`replay`): it listens on
-the loopback, so it is left out where that isn't allowed. Where no problem is named, it is one with a cover that takes hundredths to tenths of a
-second to find, so that there is time for an attack.
+The ports of a run are in /proc/net/udp, which every process of the machine may read. To each of them each attack sends
+its packets, well formed and with the names that sites of a run have, for a second from the run's begin, or until its
+end: that a node asks for work and found the root without a cover (`steal and return`), that the search is over
+(`over`), that the root is given up (`abort`), that sites have restarted with the greatest incarnation (`hello`,
+`members`), one byte (`a byte now and then`), the same as fast as it goes (`flood of bytes`), and packets of random
+bytes (`flood of noise`). Three more send what `steal and return` does: from 127.0.0.2, by the port of a site
+(`from another host`), the same with the source 127.0.0.1, which any process may name (`forged source`), and before the
+run has all its sockets, from ports that it binds a moment later (`before all are bound`): that one is in a network
+namespace with eight ports, and left out where no such namespace can be had. The first and the last of these three were
+of use only while runs compared addresses. One more sends all that an earlier run sent, with its codes (`replay`): it
+listens on the loopback, so it is left out where that isn't allowed. Where no problem is named, it is one with a cover
+that takes hundredths to tenths of a second to find, so that there is time for an attack.
 
-A table tells, attack by attack, how many runs were right, without an answer, wrong, or given up, the least, the middle and the greatest time
-in seconds, and how many packets strangers sent in all; the first line is of runs that nobody attacks. With --audit each run is audited, and
-those whose audit is unclean are a column of their own: a program that hears strangers is tried so.
+A table tells, attack by attack, how many runs were right, without an answer, wrong, or given up, the least, the middle
+and the greatest time in seconds, and how many packets strangers sent in all; the first line is of runs that nobody
+attacks. With --audit each run is audited, and those whose audit is unclean are a column of their own: a program that
+hears strangers is tried so.
 
-It wants the program: (cd crates/solve_cli && rt run -- --version) builds it. The exit status is 0 where no run was wrong or given up, 1
-where one was, where an attack sent nothing, or where no run that nobody attacks was right, 2 for a mistake on the command line or where
-there is no program.
+It wants the program: (cd crates/solve_cli && rt run -- --version) builds it. The exit status is 0 where no run was
+wrong or given up, 1 where one was, where an attack sent nothing, or where no run that nobody attacks was right, 2 for a
+mistake on the command line or where there is no program.
 """
 from __future__ import annotations
 
@@ -151,8 +155,8 @@ def ports(pid: int) -> list[int]:
 
 
 def attack(sent: collections.Counter[str], run: Run, seconds: float, attack_of: Attack, pause: float, host: str = HERE, send: Send = plain_source) -> None:
-    """Sends the attack's packets to all ports of the run, for so many seconds or until it ends, and counts them in `sent`; from another host
-    by the port of one of its sites."""
+    """Sends the attack's packets to all ports of the run, for so many seconds or until it ends, and counts them in
+    `sent`; from another host by the port of one of its sites."""
     own = socket.socket(socket.AF_INET, socket.SOCK_DGRAM)
     targets: list[int] = []
     end = time.monotonic() + seconds
@@ -176,7 +180,8 @@ def attack(sent: collections.Counter[str], run: Run, seconds: float, attack_of: 
 
 
 def overheard(given: argparse.Namespace) -> Optional[list[bytes]]:
-    """What the sites of a run sent one another, as one hears it who listens on the loopback; None where that isn't allowed."""
+    """What the sites of a run sent one another, as one hears it who listens on the loopback; None where that isn't
+    allowed."""
     try:
         ear = socket.socket(socket.AF_PACKET, socket.SOCK_DGRAM, socket.htons(ETHERNET_IP))
     except PermissionError:
@@ -199,7 +204,8 @@ def overheard(given: argparse.Namespace) -> Optional[list[bytes]]:
 
 
 def knock(end: Event, sent: Any) -> None:
-    """Binds one of the few ports after another, and sends from it to all others what a site of the run might: until the end is set."""
+    """Binds one of the few ports after another, and sends from it to all others what a site of the run might: until the
+    end is set."""
     datagrams, own_ports = list(steal_and_return())[:2], list(FEW_PORTS)
     while not end.is_set():
         random.shuffle(own_ports)
@@ -240,8 +246,8 @@ def narrow() -> None:
 
 
 def in_namespace(given: argparse.Namespace) -> bool:
-    """Runs this script in a network namespace of its own for the early attack alone, and answers whether none of its runs was bad; so it does
-    where there can be no namespace."""
+    """Runs this script in a network namespace of its own for the early attack alone, and answers whether none of its
+    runs was bad; so it does where there can be no namespace."""
     unshare = ["unshare", "--user", "--map-root-user", "--net"]
     try:
         possible = subprocess.run([*unshare, "true"], capture_output=True).returncode == 0
@@ -257,7 +263,8 @@ def in_namespace(given: argparse.Namespace) -> bool:
 
 
 def one_run(given: argparse.Namespace, name: Optional[str], seed: int) -> tuple[float, Optional[str], int]:
-    """The seconds that a run took, its output, which is none where it was given up, and how many packets strangers sent."""
+    """The seconds that a run took, its output, which is none where it was given up, and how many packets strangers
+    sent."""
     begun = time.monotonic()
     sent: collections.Counter[str] = collections.Counter()
     words = [given.program, "solve", given.problem, "--nodes", str(NODES), "--workers", "2", "--seed", str(seed)]
@@ -298,7 +305,8 @@ def columns(given: argparse.Namespace) -> list[str]:
 
 
 def row(given: argparse.Namespace, name: Optional[str], answer_file: str) -> bool:
-    """Runs all times under one attack, prints its row, and answers whether none was wrong or given up, and some were as they had to be."""
+    """Runs all times under one attack, prints its row, and answers whether none was wrong or given up, and some were as
+    they had to be."""
     counts = dict.fromkeys(columns(given), 0)
     seconds, sent = list[float](), 0
     for seed in range(given.times):

@@ -3,11 +3,11 @@
 
     python3 trials/try_workbench.py [--program PATH]
 
-Without words, with unknown ones, too few or too many, it prints how it is called, with status 2. A cycle of cores prints nothing. What the rest
-prints is compared by the gate, by other trials and by the benches.
+Without words, with unknown ones, too few or too many, it prints how it is called, with status 2. A cycle of cores
+prints nothing. What the rest prints is compared by the gate, by other trials and by the benches.
 
-It wants the program: (cd crates/workbench && rt run) builds it. The last line is 'N passed, M failed'. The exit status is 0 where all passed, 1 where
-something failed, 2 for a mistake on the command line or where there is no program.
+It wants the program: (cd crates/workbench && rt run) builds it. The last line is 'N passed, M failed'. The exit status
+is 0 where all passed, 1 where something failed, 2 for a mistake on the command line or where there is no program.
 """
 from __future__ import annotations
 

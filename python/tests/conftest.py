@@ -1,4 +1,5 @@
-"""What all tests of the package share: the program, the options of the command line, and the package's folder for the Pythons that they start."""
+"""What all tests of the package share: the program, the options of the command line, and the package's folder for the
+Pythons that they start."""
 from __future__ import annotations
 
 import os

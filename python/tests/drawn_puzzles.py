@@ -1,6 +1,8 @@
-"""Puzzles drawn by lot from a solution, written as newspapers print them, each with a test of solutions by the puzzle's own rules.
+"""Puzzles drawn by lot from a solution, written as newspapers print them, each with a test of solutions by the puzzle's
+own rules.
 
-Nothing here knows of items, options and covers, or of the scripts that make them: that is what generate.py and draw.py are tested with.
+Nothing here knows of items, options and covers, or of the scripts that make them: that is what generate.py and draw.py
+are tested with.
 """
 from __future__ import annotations
 
@@ -214,7 +216,8 @@ def touch(one: Cell, other: Cell) -> bool:
 
 
 def rows_of_stars(draw: random.Random, size: int, count: int, rows: tuple[tuple[int, ...], ...] = ()) -> tuple[tuple[int, ...], ...]:
-    """The columns of the stars in each row, so many in each row and column and none that touch; nothing where these rows can't go on."""
+    """The columns of the stars in each row, so many in each row and column and none that touch; nothing where these
+    rows can't go on."""
     if len(rows) == size:
         return rows
     ways = [columns for columns in itertools.combinations(range(size), count)
@@ -306,7 +309,8 @@ def at_origin(cells: Iterable[Sequence[int]]) -> Shape:
 
 
 def normal(cells: Iterable[Sequence[int]], flips: bool) -> Shape:
-    """The least of a shape's turns at the origin, and of its mirror images if it may be flipped; what is flat stays in its layer."""
+    """The least of a shape's turns at the origin, and of its mirror images if it may be flipped; what is flat stays in
+    its layer."""
     places, ways = list(cells), list[Shape]()
     is_flat = len({layer for layer, _, _ in places}) == 1 and flips
     for order, signs in itertools.product(itertools.permutations(range(3)), itertools.product((1, -1), repeat=3)):

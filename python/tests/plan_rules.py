@@ -1,7 +1,8 @@
-"""A test of a school's plan that knows nothing of items, options and covers: it reads the table of lessons, the table of rules and the plan's own
-table as a head teacher would, and says what is wrong.
+"""A test of a school's plan that knows nothing of items, options and covers: it reads the table of lessons, the table
+of rules and the plan's own table as a head teacher would, and says what is wrong.
 
-It understands what the schools of `planned_schools.py` use: names with `+`, `or` and `;`, periods as Mon1-6 and Mon-Fri1-6.
+It understands what the schools of `planned_schools.py` use: names with `+`, `or` and `;`, periods as Mon1-6 and
+Mon-Fri1-6.
 """
 from __future__ import annotations
 

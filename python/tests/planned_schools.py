@@ -1,5 +1,5 @@
-"""Schools drawn by lot with rules: each subject at most once a day, no holes for a class, teachers with free days, joint double lessons. A plan is
-drawn first, and the tables are read off it, so that there is one."""
+"""Schools drawn by lot with rules: each subject at most once a day, no holes for a class, teachers with free days,
+joint double lessons. A plan is drawn first, and the tables are read off it, so that there is one."""
 from __future__ import annotations
 
 import itertools
@@ -106,7 +106,8 @@ class Drawn:
         return False
 
     def tables(self, away: int) -> Tables:
-        """The tables: subjects with their numbers, and so many teachers who are away on a day on which they have nothing."""
+        """The tables: subjects with their numbers, and so many teachers who are away on a day on which they have
+        nothing."""
         counts: dict[tuple[str, str, tuple[str, ...]], int] = {}
         at: dict[tuple[str, str, Time], list[str]] = {}
         for (one, time), (subject, teacher) in self.plan.items():

@@ -9,7 +9,8 @@ from zarfepoch import Problem
 
 
 def long_search() -> Problem:
-    """A problem that nobody sees the end of, by searching, reasoning or learning: a cover may be among so few triples, but nobody finds it soon."""
+    """A problem that nobody sees the end of, by searching, reasoning or learning: a cover may be among so few triples,
+    but nobody finds it soon."""
     draw = random.Random(1)
     return Problem(range(300), options=[draw.sample(range(300), 3) for _ in range(900)])
 

@@ -1,7 +1,8 @@
 """Schools drawn by lot that have a timetable, and a test of timetables that knows nothing of items, options and covers.
 
-The test reads the table of lessons and the plans that draw.py prints, as a teacher would: each lesson is given as often as it should be, at
-allowed periods, with its length on one day; its teachers and classes all have it in their plans at the same time, and one of its rooms too.
+The test reads the table of lessons and the plans that draw.py prints, as a teacher would: each lesson is given as often
+as it should be, at allowed periods, with its length on one day; its teachers and classes all have it in their plans at
+the same time, and one of its rooms too.
 """
 from __future__ import annotations
 
@@ -60,7 +61,8 @@ class School:
         return all(self.give((one,), [time]) for time in self.periods for one in self.classes if self.is_free([one], [time]))
 
     def table(self) -> str:
-        """The lessons, one row for those of the same people and length; each may have any room that the lot gave one of them."""
+        """The lessons, one row for those of the same people and length; each may have any room that the lot gave one of
+        them."""
         rows: dict[tuple[tuple[str, ...], int], list[str]] = {}
         for who, length in self.given:
             rows.setdefault((who[:-1], length), []).append(who[-1])
@@ -142,8 +144,8 @@ def faults_of_lesson(row: dict[str, str], plans: Plans) -> Iterator[str]:
 
 
 def faults(table: str, lines: list[str]) -> list[str]:
-    """What is wrong with plans of everybody, by the table of lessons. A plan has one lesson at a time, so nobody is in two places where
-    each lesson is in all its plans."""
+    """What is wrong with plans of everybody, by the table of lessons. A plan has one lesson at a time, so nobody is in
+    two places where each lesson is in all its plans."""
     rows = list(csv.DictReader(io.StringIO(table), delimiter=";"))
     plans = plans_of(lines)
     found = [fault for row in rows for fault in faults_of_lesson(row, plans)]

@@ -1,8 +1,8 @@
 """Tests what generate makes and what draw draws, with the built program between them.
 
-The examples must be written again byte for byte, and the pictures in examples/pictures drawn again. Of problems of each kind
-and of several sizes the drawn text is tested by the kind's own rules: queens that attack nobody, digits once in each row, and
-so on. Each SVG must be well formed, with all its shapes on the sheet.
+The examples must be written again byte for byte, and the pictures in examples/pictures drawn again. Of problems of each
+kind and of several sizes the drawn text is tested by the kind's own rules: queens that attack nobody, digits once in
+each row, and so on. Each SVG must be well formed, with all its shapes on the sheet.
 """
 from __future__ import annotations
 
@@ -51,7 +51,8 @@ MIXED = ["00", "01", "10", "11", "3-4", "3-5", "r0", "c0", "a1", "b2", "1", "2",
 COLOURS = ["", "", "", ":red", ":b", ":c"]
 FOUR = b"p e a c f\nq e f d a\nr c b e f\ns d e f b\n"
 MAP = "anna berta\nberta clara\nclara dora\ndora anna\nanna clara\nemil frieda\nemil anna\nfrieda dora\n"
-# problems whose names have letters of two columns in a terminal, and marks of none, each with the text of the answer that has all its options
+# problems whose names have letters of two columns in a terminal, and marks of none, each with the text of the answer
+# that has all its options
 WIDE = [
     ("数学 Ku\u0308nste | 王老师-1 Ann-1 王老师-2 Ann-2\n数学 王老师-1\nKu\u0308nste Ann-2\n",
      ["period  王老师  Ann", "------  ------  ------", "1       数学", "2               Ku\u0308nste"]),
@@ -168,7 +169,8 @@ def join_all(lines: list[str], n: int) -> bool:
 
 
 def are_squares(lines: list[str], border: Optional[str] = None) -> bool:
-    """Whether the letters of sides that meet are equal, and those all round the border's, of squares with a name of one letter."""
+    """Whether the letters of sides that meet are equal, and those all round the border's, of squares with a name of one
+    letter."""
     rows = [[cell for cell in line.strip("|").split("|")] for line in lines if line.startswith("|")]
     above, middle, below = ([[cell.strip() for cell in row] for row in rows[k::3]] for k in range(3))
     left, right = ([[cell.split()[k] for cell in row] for row in middle] for k in (0, 2))

@@ -1,10 +1,11 @@
 """Compares what explain.py says with what the built program says.
 
-All examples, some outside cases, and random files, most of them spoilt, are given to both, then each file that
-can be read once more with an answer: the program's own, a spoilt one, or a random choice of options. For each it compares
-the program's standard error (and the verdict of `check`) with the lines of explain.py that say what the program says, and
-the name and the line of the fault with those of the first fault that explain.py explains. With the thousand random files of the slow
-test each kind of fault must have been met. What else it says is tested by a table of files with lines that were worked out by hand.
+All examples, some outside cases, and random files, most of them spoilt, are given to both, then each file that can be
+read once more with an answer: the program's own, a spoilt one, or a random choice of options. For each it compares the
+program's standard error (and the verdict of `check`) with the lines of explain.py that say what the program says, and
+the name and the line of the fault with those of the first fault that explain.py explains. With the thousand random
+files of the slow test each kind of fault must have been met. What else it says is tested by a table of files with lines
+that were worked out by hand.
 """
 from __future__ import annotations
 
@@ -289,7 +290,8 @@ class Comparing:
         return subprocess.run([self.program, *words, "--fuel", FUEL], stdout=subprocess.PIPE, stderr=subprocess.PIPE, timeout=120)
 
     def explained(self, words: list[str]) -> tuple[list[str], bool, Optional[tuple[str, str]]]:
-        """What explain.py says that the program says, whether it leaves the verdict open, and the first fault that it explains."""
+        """What explain.py says that the program says, whether it leaves the verdict open, and the first fault that it
+        explains."""
         said = io.StringIO()
         with contextlib.redirect_stdout(said):
             explain.main(words)
@@ -301,7 +303,8 @@ class Comparing:
 
     def compare(self, words: list[str], ran: subprocess.CompletedProcess[bytes], with_verdict: bool) -> None:
         told = [shown(line) for line in ran.stderr.split(b"\n")[:-1]]
-        # (why there is no answer isn't foretold; of a file that can't be read, explain.py names file and cause in its own words)
+        # (why there is no answer isn't foretold; of a file that can't be read, explain.py names file and cause in its
+        # own words)
         told = [line for line in told if not line.startswith(("ended: ", "cannot read: "))]
         verdict = [shown(ran.stdout[:-1])] if with_verdict and ran.stdout.startswith((b"right", b"wrong: ")) else []
         says, by_search, first = self.explained(words)
@@ -333,7 +336,8 @@ def comparing(program: str, tmp_path: pathlib.Path) -> Comparing:
 @pytest.mark.parametrize("kind", ("file", "answer"))
 @pytest.mark.parametrize("cause", ("it is a folder", "there is no such file"))
 def test_unreadable(comparing: Comparing, kind: str, cause: str) -> None:
-    """Of a folder and a missing file, as the problem's file and as the answer's, both the program and explain.py name it."""
+    """Of a folder and a missing file, as the problem's file and as the answer's, both the program and explain.py name
+    it."""
     letters = comparing.write("letters", LETTERS)
     path = comparing.folder if "folder" in cause else os.path.join(comparing.folder, "missing")
     words = [path] if kind == "file" else [letters, path]

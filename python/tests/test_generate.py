@@ -1,8 +1,8 @@
 """Tests problems that generate.py makes of puzzles drawn by lot, with the built program and draw.py behind it.
 
-Of each kind some puzzles are drawn by lot, from a solution, and written as people write them. The answer is
-drawn as text, and this text is tested by the kind's own rules, which know nothing of items and options. Tables and boards that can't be
-meant must be refused with their line.
+Of each kind some puzzles are drawn by lot, from a solution, and written as people write them. The answer is drawn as
+text, and this text is tested by the kind's own rules, which know nothing of items and options. Tables and boards that
+can't be meant must be refused with their line.
 """
 from __future__ import annotations
 
@@ -137,7 +137,8 @@ def test_joint_lessons(trial: Generating) -> None:
 
 
 def test_spellings(trial: Generating) -> None:
-    """A letter and its mark are one letter, in one character or in two, and blanks that aren't seen part no name from itself."""
+    """A letter and its mark are one letter, in one character or in two, and blanks that aren't seen part no name from
+    itself."""
     for what, one, other in (("a mark as a character of its own", "J\u00f6rg", "Jo\u0308rg"), ("two blanks", "Ann Lee", "Ann  Lee"),
                              ("a blank that parts no line", "Ann Lee", "Ann\u00a0Lee"), ("a line end in a cell", "Ann Lee", '"Ann\nLee"')):
         table = trial.path("spelt.csv", f"{HEAD}\na,{one},5a,r,1\nb,{other},5b,s,1 2\n")
@@ -181,7 +182,8 @@ SLIPS = (("teacher", "Novak Novak Novack", "line 4: note: the teacher Novack, in
 
 @pytest.mark.parametrize("column, names, wanted", SLIPS, ids=[names for _, names, _ in SLIPS])
 def test_slips(trial: Generating, column: str, names: str, wanted: str) -> None:
-    """Of a name that stands in one line alone, and differs in one letter from one that stands in more, it is told; the file is made all the same."""
+    """Of a name that stands in one line alone, and differs in one letter from one that stands in more, it is told; the
+    file is made all the same."""
     rows = [{"lesson": f"l{k}", "teacher": f"t{k}", "class": f"c{k}", "rooms": f"r{k}", "periods": "Mon1-6", column: name}
             for k, name in enumerate(names.split())]
     table = trial.path("slips.csv", "\n".join([HEAD, *(",".join(row.values()) for row in rows)]) + "\n")
@@ -192,7 +194,8 @@ def test_slips(trial: Generating, column: str, names: str, wanted: str) -> None:
 
 @pytest.mark.parametrize("kind, text, wanted", ALIKE, ids=[repr(text) for _, text, _ in ALIKE])
 def test_names_alike(trial: Generating, kind: str, text: str, wanted: str) -> None:
-    """Of names that differ in capitals, blanks or accents alone it is told, with both lines; the file is made all the same."""
+    """Of names that differ in capitals, blanks or accents alone it is told, with both lines; the file is made all the
+    same."""
     file = trial.path("alike.csv", f"{HEAD}\n{text}" if kind == "timetable" else text)
     ended = trial.python("generate", kind, file)
     told = ended.stderr
@@ -233,7 +236,8 @@ def test_rules_are_tested(trial: Generating) -> None:
     assert faults(table, swapped) or faults(table, [line.replace("2", "4", 1) for line in lines]), "a double lesson in two pieces is found"
 
 
-# tables of lessons that nobody can mean: what they are, the exit status, the line that is told, and the rows; then heads with a row
+# tables of lessons that nobody can mean: what they are, the exit status, the line that is told, and the rows; then
+# heads with a row
 WRONG_TABLES = (
     ("a class with more lessons than periods", 1, "2", ["a,ann,5a,r,1-3", "b,bob,5a,s,1-3", "c,cyd,5a,r,1-3", "d,dan,5a,s,1-3"]),
     ("a teacher with too few periods for some lessons", 1, "2", ["a,ann,5a,r,1", "b,ann,5b,s,1", "c,ann,5c,r,1-9"]),
@@ -304,7 +308,8 @@ def test_odd_tables(trial: Generating) -> None:
 
 
 def test_rooms_at_once(trial: Generating) -> None:
-    """A lesson with R1+R2 takes both rooms, as joint lessons take both classes; blanks, `;` and `or` part rooms of which it takes one."""
+    """A lesson with R1+R2 takes both rooms, as joint lessons take both classes; blanks, `;` and `or` part rooms of
+    which it takes one."""
     file = trial.made("timetable", trial.path("rooms.csv", HEAD + "\nsport,ann,5a,R1+R2,1\ndance,bob,5b,R1,1-2\nart,cy,5c,R1 or R2,1-3\n"))
     with open(file, encoding="utf-8") as opened:
         lines = opened.read().split("\n")
@@ -425,12 +430,14 @@ def covers(trial: Generating, file: str) -> Optional[int]:
 @pytest.mark.parametrize("words, count", ((["queens", "6"], 4), (["langford", "4"], 2), (["killer", os.path.join(TOP, "examples", "killer.txt")], 1)),
                          ids=("queens", "langford", "killer"))
 def test_all_covers(trial: Generating, words: list[str], count: int) -> None:
-    """Six queens have four solutions, Langford's four numbers one and its mirror image, and the example of a killer one."""
+    """Six queens have four solutions, Langford's four numbers one and its mirror image, and the example of a killer
+    one."""
     assert covers(trial, trial.made(*words)) == count, f"all covers of {words}"
 
 
 def test_no_answers(trial: Generating) -> None:
-    """What another.py refuses: answers that are cut off or no cover, and what would be too large. A file's name may end in anything."""
+    """What another.py refuses: answers that are cut off or no cover, and what would be too large. A file's name may end
+    in anything."""
     file, other = trial.path("two.dlx", "a b c\na\nb c\nb\nc\n"), "other-0:used"
     for what, text, status in (("a cover", "cover 2\na\nb c\n", 0), ("a cover, audited", "cover 2\na\nb c\naudit clean\n", 0),
                                ("a cover of its own problem", f"cover 4\na {other}\nb\nc\nother1 other-1:barred\n", 0),

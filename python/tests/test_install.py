@@ -1,7 +1,8 @@
 """Tries what pip puts in place, from a folder, an archive and a wheel, without a network; and a Python that is killed.
 
-The package is installed into an environment of its own, and the examples are run there: from another folder, without HOME, with the program on the path
-alone. A killed Python leaves no file behind, and its program ends with it. It wants Debian's python3-venv, and python3-pip with what it brings.
+The package is installed into an environment of its own, and the examples are run there: from another folder, without
+HOME, with the program on the path alone. A killed Python leaves no file behind, and its program ends with it. It wants
+Debian's python3-venv, and python3-pip with what it brings.
 """
 from __future__ import annotations
 
@@ -42,7 +43,8 @@ def old_python(wheel: str, folder: str) -> None:
 
 
 def test_installed(tmp_path: pathlib.Path, program: str, monkeypatch: pytest.MonkeyPatch) -> None:
-    """The package in an environment of its own, from a copy of the folder python, in which setuptools leaves what it builds."""
+    """The package in an environment of its own, from a copy of the folder python, in which setuptools leaves what it
+    builds."""
     folder = str(tmp_path)
     monkeypatch.delenv("PYTHONPATH")
     place, elsewhere, source = (os.path.join(folder, name) for name in ("environment", "elsewhere", "python"))

@@ -1,9 +1,11 @@
-"""Tries the command zarfepoch KIND: a puzzle or a school from its text to its answer, drawn, with whether it is the only one.
+"""Tries the command zarfepoch KIND: a puzzle or a school from its text to its answer, drawn, with whether it is the
+only one.
 
-Of each kind some puzzles are drawn by lot. What is drawn is tested by the kind's own rules, which know nothing of items and
-options; whether an answer is the only one is compared with puzzles of which that is known. Reasons are told in the words of the puzzle, and which
-of its givens may be mistyped. All solutions are drawn and counted. Sudokus in all spellings are one, and texts that can't be meant are refused. Pages
-that are made of the commands' help have all their options.
+Of each kind some puzzles are drawn by lot. What is drawn is tested by the kind's own rules, which know nothing of items
+and options; whether an answer is the only one is compared with puzzles of which that is known. Reasons are told in the
+words of the puzzle, and which of its givens may be mistyped. All solutions are drawn and counted. Sudokus in all
+spellings are one, and texts that can't be meant are refused. Pages that are made of the commands' help have all their
+options.
 """
 from __future__ import annotations
 
@@ -131,7 +133,8 @@ FAILING = (
 
 @pytest.mark.parametrize("words, answers, told, wanted", FAILING, ids=[f"{words[0]} after {answers}" for words, answers, _, _ in FAILING])
 def test_failing(trial: Solving, words: list[str], answers: int, told: str, wanted: int) -> None:
-    """A program that ends with the status of `none`, as one does that can't be started, and writes nothing: nothing follows from that."""
+    """A program that ends with the status of `none`, as one does that can't be started, and writes nothing: nothing
+    follows from that."""
     count = trial.path("count", "0")
     failing = trial.path("failing", f"#!/bin/sh\nn=$(cat {count})\necho $((n + 1)) > {count}\n[ $n -ge {answers} ] && exit 1\n"
                          f"exec {trial.environment['ZARFEPOCH']} \"$@\"\n")
@@ -197,7 +200,8 @@ def test_reasons(trial: Solving) -> None:
     assert status in (0, 1), f"a timetable: {status} {lines} {errors}"
 
 
-# puzzles in which one thing is mistyped: the words of the command, a text, what is changed in it the first time it comes, and what has to be told
+# puzzles in which one thing is mistyped: the words of the command, a text, what is changed in it the first time it
+# comes, and what has to be told
 MISTYPED: tuple[tuple[list[str], str, str, str, str], ...] = (
     (["sudoku"], "sudoku", "8.", "84", "without the 4 in row 1 column 2"),
     (["jigsaw"], "jigsaw", "....5849", "7...5849", "without the 7 in row 2 column 1"),
@@ -406,7 +410,8 @@ def test_spellings(trial: Solving) -> None:
     assert trial.run("board", "2x2", "--pieces", trial.path("capital.txt", "A\nXX\nXX\n"))[0] == 0, "pieces of capitals"
 
 
-# puzzles of numbers and signs that nobody can mean, or that plainly have no solution: what they are, the exit status, the line, the kind and the text
+# puzzles of numbers and signs that nobody can mean, or that plainly have no solution: what they are, the exit status,
+# the line, the kind and the text
 WRONG = (
     ("a grid that is no set of dominoes", 3, None, "dominosa", "0 1\n1 0\n"), ("a number too large", 3, "2", "dominosa", "0 0 1\n1 2 0\n"),
     ("a number too often", 1, None, "dominosa", "0 0 1\n1 0 0\n"), ("a row too short", 3, "2", "dominosa", "0 0 1\n1 1\n"),

@@ -1,4 +1,5 @@
-"""Tests the order of the package's modules: each takes only from those before it on the page of the package, and a subpackage says from which."""
+"""Tests the order of the package's modules: each takes only from those before it on the page of the package, and a
+subpackage says from which."""
 from __future__ import annotations
 
 import ast
@@ -81,7 +82,8 @@ def test_no_circle() -> None:
 
 @pytest.mark.parametrize("name", SUBPACKAGES)
 def test_subpackage(name: str) -> None:
-    """A subpackage has a text alone, which says what is in it and on which parts it stands: those that its modules take from, in order."""
+    """A subpackage has a text alone, which says what is in it and on which parts it stands: those that its modules take
+    from, in order."""
     tree = ast.parse((PACKAGE / name / "__init__.py").read_text(encoding="utf-8"))
     text = ast.get_docstring(tree) or ""
     said = re.findall(r"`(\w+)`", text.partition("\n\nIt stands on ")[2])

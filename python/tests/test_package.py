@@ -1,7 +1,8 @@
 """Tries the package zarfepoch: its examples, answers and covers beside plain searches, what it raises, and its files.
 
-The examples of the package and those of python/README.md are run as they stand. Of random problems, with items that aren't texts, secondary items
-and colours, each answer and all covers are compared with plain searches. Problems are written and read again.
+The examples of the package and those of python/README.md are run as they stand. Of random problems, with items that
+aren't texts, secondary items and colours, each answer and all covers are compared with plain searches. Problems are
+written and read again.
 """
 from __future__ import annotations
 
@@ -119,7 +120,8 @@ def small_problems(draw: some.DrawFn) -> Problem:
 
 
 def all_covers(problem: Problem) -> set[frozenset[int]]:
-    """All exact covers, by trying all sets of options. Options without a primary item are in none: the program passes them over."""
+    """All exact covers, by trying all sets of options. Options without a primary item are in none: the program passes
+    them over."""
     kept = [place for place, option in enumerate(problem) if any(problem.is_primary(item) for item in option)]
     sets = itertools.chain.from_iterable(itertools.combinations(kept, size) for size in range(1, len(problem.primary) + 1))
     return {frozenset(places) for places in sets if problem.is_cover(places)}
@@ -156,7 +158,8 @@ def test_covers(problem: Problem) -> None:
 
 
 def test_cliques() -> None:
-    """Four exams in three slots, each two of which have a student in common: a reason counts the exams of a slot as a clique."""
+    """Four exams in three slots, each two of which have a student in common: a reason counts the exams of a slot as a
+    clique."""
     pairs = list(itertools.combinations("efgh", 2))
     problem = Problem("efgh", [(pair, slot) for pair in pairs for slot in range(3)])
     for slot in range(3):
@@ -174,8 +177,9 @@ def twos(people: Iterable[int]) -> list[frozenset[int]]:
 
 @pytest.mark.parametrize("people, size", ((6, 2), (8, 4), (9, 3)))
 def test_golfers(people: int, size: int) -> None:
-    """People who meet in groups on some evenings, each two at most once: counting tells where each meets others more often than there are others, and
-    cases where two of four meet again, since there are two groups on the second evening, too."""
+    """People who meet in groups on some evenings, each two at most once: counting tells where each meets others more
+    often than there are others, and cases where two of four meet again, since there are two groups on the second
+    evening, too."""
     for evenings in range(1, people // (size - 1) + 1):
         options: list[list[Hashable]] = [[*((evening, one) for one in group), *twos(group)] for evening in range(evenings)
                                          for group in itertools.combinations(range(people), size)]
@@ -255,7 +259,8 @@ class Late:
 
 
 def test_all_by_both() -> None:
-    """All covers, where the search and the program meet anywhere: the program is asked from the first step on, and answers early or late."""
+    """All covers, where the search and the program meet anywhere: the program is asked from the first step on, and
+    answers early or late."""
     questions, counts = 0, Counter[bool]()
     for seed in range(400):
         draw = random.Random(seed)
@@ -282,7 +287,8 @@ def test_all_by_both() -> None:
 
 
 def test_many_covers() -> None:
-    """All covers of problems in which one search for each wouldn't end; who goes on no further leaves no program behind."""
+    """All covers of problems in which one search for each wouldn't end; who goes on no further leaves no program
+    behind."""
     made = subprocess.run([sys.executable, "-m", "zarfepoch.generate", "pentominoes", "3x20"], capture_output=True)
     found = [frozenset(cover) for cover in Problem.parse(made.stdout).covers(seconds=120)]
     assert len(found) == len(set(found)) == 8, f"pentominoes on 3 by 20: {len(found)}"
@@ -368,7 +374,8 @@ def test_programs_that_are_none(program: str, failed: type[BaseException]) -> No
 
 
 def test_words_left_out() -> None:
-    """Primary items are all that aren't secondary, an option may be a list, and the options of a cover may be had themselves."""
+    """Primary items are all that aren't secondary, an option may be a list, and the options of a cover may be had
+    themselves."""
     options: list[list[zarfepoch.Word]] = [["a", Colored("x", 1)], ["b", Colored("x", 2)], ["b", Colored("x", 1)], ["c"]]
     assert zarfepoch.solve([["a", "b"], ["c"], ["b", "c"]]) == [0, 1] and zarfepoch.solve([["a"], ["a", "b"]]) == [1], "all items are primary"
     assert zarfepoch.solve(options, secondary=["x"]) == [0, 2, 3], "all but secondary ones"
@@ -427,7 +434,8 @@ def test_names_of_all_bytes() -> None:
 
 
 def test_a_board() -> None:
-    """A board of more prefixes than a limit of visits can count: that dominoes don't cover it is decided by a reason."""
+    """A board of more prefixes than a limit of visits can count: that dominoes don't cover it is decided by a
+    reason."""
     cells = {(row, column) for row in range(14) for column in range(14)} - {(0, 0), (13, 13)}
     dominoes = [[(row, column), other] for row, column in sorted(cells) for other in ((row, column + 1), (row + 1, column)) if other in cells]
     assert zarfepoch.solve(dominoes, cells, seconds=60) is None, "a board of 14 by 14"

@@ -1,9 +1,11 @@
-"""Compares the reasons that the program finds with a plain search, and with check_reason.py, which adds each of them up.
+"""Compares the reasons that the program finds with a plain search, and with check_reason.py, which adds each of them
+up.
 
-Of 300 random problems with a cover the program has to find no reason, and of as many without one each reason that it finds has
-to hold; whether there is a cover says the plain search of `plain_search.py`. A reason in which one number is changed has to be refused by
-check_reason.py unless it still holds, as this counts for itself. Then come families whose reasons are known: over-full timetables,
-pigeons, boards, Langford pairs, triples; the examples; the reasons on the page BY_HAND; and odd words for check_reason.py.
+Of 300 random problems with a cover the program has to find no reason, and of as many without one each reason that it
+finds has to hold; whether there is a cover says the plain search of `plain_search.py`. A reason in which one number is
+changed has to be refused by check_reason.py unless it still holds, as this counts for itself. Then come families whose
+reasons are known: over-full timetables, pigeons, boards, Langford pairs, triples; the examples; the reasons on the page
+BY_HAND; and odd words for check_reason.py.
 """
 from __future__ import annotations
 
@@ -71,7 +73,8 @@ def changed(draw: random.Random, reason: bytes) -> bytes:
 
 @pytest.mark.parametrize("seed, count", (*((seed, 30) for seed in range(10)), pytest.param(74, 2000, marks=pytest.mark.slow)))
 def test_random_problems(seed: int, count: int) -> None:
-    """So many problems with a cover have no reason, and as many without one a reason that holds, or none that is found."""
+    """So many problems with a cover have no reason, and as many without one a reason that holds, or none that is
+    found."""
     draw, left = random.Random(seed), {True: count, False: count}
     while any(left.values()):
         text = random_text(draw)
@@ -247,7 +250,8 @@ BY_HAND = problems_by_hand()
 
 @pytest.mark.parametrize("what, problem, reason", BY_HAND, ids=[what for what, _, _ in BY_HAND])
 def test_by_hand(what: str, problem: str, reason: bytes) -> None:
-    """The reason on the page holds, and the program writes it. It has cliques, just enough room, room for more than 1 of an item, or cases."""
+    """The reason on the page holds, and the program writes it. It has cliques, just enough room, room for more than 1
+    of an item, or cases."""
     assert is_checked(problem, reason), f"the reason of {what} doesn't hold"
     added = Reason(reason)
     assert added.holds(read_problem(problem.encode())), f"the reason of {what} doesn't hold by its own sums"

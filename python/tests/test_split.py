@@ -1,11 +1,12 @@
 """Tries split.py, join.py and run_part.sh.
 
 Of random problems, with secondary items and colours, the prefixes are compared with those of the branching of
-`plain_search.py`, and the covers of the parts, each with its prefix, with the covers of the whole: all of these are counted out. Of those without a cover
-a plain search certifies the parts, and what `joined_certificates` makes of these, by cases and by clauses, has to be a certificate of the whole. Two
-examples are compared with what was counted by hand. Then the parts of some problems are searched and joined, and `check` has to find the answer
-right; and parts, answers and certificates are deleted, changed, wrong, half written, and stopped by signals. Where GNU parallel is installed, it runs the parts
-too, is killed, and goes on.
+`plain_search.py`, and the covers of the parts, each with its prefix, with the covers of the whole: all of these are
+counted out. Of those without a cover a plain search certifies the parts, and what `joined_certificates` makes of these,
+by cases and by clauses, has to be a certificate of the whole. Two examples are compared with what was counted by hand.
+Then the parts of some problems are searched and joined, and `check` has to find the answer right; and parts, answers
+and certificates are deleted, changed, wrong, half written, and stopped by signals. Where GNU parallel is installed, it
+runs the parts too, is killed, and goes on.
 """
 from __future__ import annotations
 
@@ -57,7 +58,8 @@ def random_text(draw: random.Random) -> str:
 
 
 def is_cover(primary: int, options: list[Numbered]) -> bool:
-    """Whether these options are an exact cover: each primary item once, each other once at most or always in one colour."""
+    """Whether these options are an exact cover: each primary item once, each other once at most or always in one
+    colour."""
     uses: dict[int, list[Optional[bytes]]] = {}
     for item, colour in (pair for option in options for pair in option.items()):
         uses.setdefault(item, []).append(colour)
@@ -79,7 +81,8 @@ class Taken(NamedTuple):
 
 
 def taken_apart(primary: int, options: list[Numbered], number: int) -> Taken:
-    """The open and barren prefixes, breadth first, until there are so many open ones; or the first cover that is met."""
+    """The open and barren prefixes, breadth first, until there are so many open ones; or the first cover that is
+    met."""
     waiting, barren, born = [], [], [[]]  # type: list[list[int]], list[list[int]], list[list[int]]
     while True:
         for prefix in born:
@@ -326,7 +329,8 @@ def certified(folder: str, out: str) -> Ran:
 
 
 def test_certificates_count(top: str) -> None:
-    """With --certificate an answer that is written by hand doesn't count, and a certificate counts without an answer."""
+    """With --certificate an answer that is written by hand doesn't count, and a certificate counts without an
+    answer."""
     folder, out = made(top, "langford-5", 6), os.path.join(top, "whole.certificate")
     parts = parts_in(folder)
     paths = [part[:-4] + ".certificate" for part in parts]

@@ -1,10 +1,10 @@
 """Tests timetables with rules: what planners say is what the program gets, and plans go back into the sheet.
 
-Of small tables of each rule, drawn by lot, all covers of the problem are compared with all plans, found by trying
-each choice of periods, teachers and rooms: a plan is whatever plan_rules.py, which knows nothing of covers, finds no fault with. Schools of six,
-eight and nine classes are planned, with each subject at most once a day, no holes, teachers with free days and joint
-double lessons; their plans are read back as tables, and planned again with two changes. Tables of rules that can't be meant are refused with
-their line, and what counting shows to be impossible is told.
+Of small tables of each rule, drawn by lot, all covers of the problem are compared with all plans, found by trying each
+choice of periods, teachers and rooms: a plan is whatever plan_rules.py, which knows nothing of covers, finds no fault
+with. Schools of six, eight and nine classes are planned, with each subject at most once a day, no holes, teachers with
+free days and joint double lessons; their plans are read back as tables, and planned again with two changes. Tables of
+rules that can't be meant are refused with their line, and what counting shows to be impossible is told.
 """
 from __future__ import annotations
 
@@ -51,7 +51,8 @@ class Planning:
         return subprocess.run([sys.executable, "-m", "zarfepoch.generate", "timetable", *words], capture_output=True, text=True)
 
     def plan(self, tables: Tables, before: Optional[str] = None) -> str:
-        """The plan of a school as CSV, by the program; with one before it, which is to be kept. Nothing where there is none."""
+        """The plan of a school as CSV, by the program; with one before it, which is to be kept. Nothing where there is
+        none."""
         school = read_school(self.path("school.csv", tables.lessons), self.path("rules.csv", tables.rules))
         plan = kept_plan(self.path("before.csv", before), school) if before else None
         [timetable] = timetables(school, plan)
@@ -184,7 +185,8 @@ def test_small_tables_have_plans(times: int) -> None:
 # ---- schools
 
 def with_two_changes(tables: Tables, plan: str) -> Tables:
-    """The tables with a teacher away on a day on which they had one or two lessons, and another teacher for a lesson."""
+    """The tables with a teacher away on a day on which they had one or two lessons, and another teacher for a
+    lesson."""
     busy: dict[tuple[str, str], int] = {}
     for given in read_plan(plan):
         for who in given.teachers:
@@ -199,7 +201,8 @@ def with_two_changes(tables: Tables, plan: str) -> Tables:
 
 @pytest.mark.parametrize("classes, teachers, per_day", ((6, 12, 6), (8, 13, 5), (9, 13, 5)))
 def test_school(trial: Planning, times: int, classes: int, teachers: int, per_day: int) -> None:
-    """Schools are planned as their rules say; and planned again after two changes, with most lessons where they were."""
+    """Schools are planned as their rules say; and planned again after two changes, with most lessons where they
+    were."""
     for seed in range(1, times + 1):
         tables = planned(seed, classes, teachers, per_day)
         plan = trial.plan(tables)

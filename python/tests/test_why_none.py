@@ -1,9 +1,10 @@
-"""Tries what why_none.py says: its items beside the plain search of `plain_search.py`, and the words and pictures of reasons.
+"""Tries what why_none.py says: its items beside the plain search of `plain_search.py`, and the words and pictures of
+reasons.
 
-Of random problems without a cover the items have to be ones that the plain search can't cover together, and can
-without any one of them, and what is said of them has to be so. Then comes a path of 201 items, of which none can be left out;
-problems whose reason is known, with their words and pictures, and the pictures in examples/reasons, which are drawn again; and odd words:
-a problem with a cover, refused files, programs that are none, and one whose reason doesn't hold.
+Of random problems without a cover the items have to be ones that the plain search can't cover together, and can without
+any one of them, and what is said of them has to be so. Then comes a path of 201 items, of which none can be left out;
+problems whose reason is known, with their words and pictures, and the pictures in examples/reasons, which are drawn
+again; and odd words: a problem with a cover, refused files, programs that are none, and one whose reason doesn't hold.
 """
 from __future__ import annotations
 

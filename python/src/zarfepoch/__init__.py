@@ -4,9 +4,10 @@
     chosen(options, primary=None, secondary=(), seconds=None, *, nodes=None, workers=None, audit=False)
     reasons(options, primary=None, secondary=(), seconds=None)
 
-An option is a list of items. Items are whatever can be a key of a dict; a secondary item may stand in an option with a colour, as
-Colored(item, colour). Where `primary` isn't told, it is all items that aren't secondary. The answer of `solve` is the list of the chosen options'
-places in `options`, that of `chosen` has these options themselves, and both are None where there is no cover:
+An option is a list of items. Items are whatever can be a key of a dict; a secondary item may stand in an option with a
+colour, as Colored(item, colour). Where `primary` isn't told, it is all items that aren't secondary. The answer of
+`solve` is the list of the chosen options' places in `options`, that of `chosen` has these options themselves, and both
+are None where there is no cover:
 
     >>> solve([["a", "b"], ["c"], ["b", "c"]])
     [0, 1]
@@ -15,7 +16,8 @@ places in `options`, that of `chosen` has these options themselves, and both are
     >>> solve([["a", "b"], ["b", "c"]], primary=["a", "b", "c"]) is None
     True
 
-Each primary item is in exactly one chosen option, each secondary item in at most one, or in several that give it the same colour:
+Each primary item is in exactly one chosen option, each secondary item in at most one, or in several that give it the
+same colour:
 
     >>> red, blue = Colored("x", "red"), Colored("x", "blue")
     >>> solve([["a", red], ["b", blue], ["b", red]], primary=["a", "b"], secondary=["x"])
@@ -34,10 +36,11 @@ A `Problem` keeps items and options together, reads and writes files, and is ite
     >>> problem.solve(), [" ".join(option) for option in problem]
     ([0, 2], ['a', 'a b', 'b'])
 
-What is raised is an `Error`: a `ProblemError`, which is a ValueError with `option`, `item` and `line`; a `WrongNumber`, a ValueError, for seconds or
-threads that can't be; `TimeIsUp`, a TimeoutError, where there is no answer after so many seconds; `OutOfMemory`, a MemoryError; or a `ProgramError`, a
-RuntimeError, where there is no program, or it fails. The
-program is what ZARFEPOCH names in the environment, else solve_cli on the path, else, for a package in a clone, what was built there.
+What is raised is an `Error`: a `ProblemError`, which is a ValueError with `option`, `item` and `line`; a `WrongNumber`,
+a ValueError, for seconds or threads that can't be; `TimeIsUp`, a TimeoutError, where there is no answer after so many
+seconds; `OutOfMemory`, a MemoryError; or a `ProgramError`, a RuntimeError, where there is no program, or it fails. The
+program is what ZARFEPOCH names in the environment, else solve_cli on the path, else, for a package in a clone, what was
+built there.
 """
 from __future__ import annotations
 
@@ -66,7 +69,8 @@ def solve(options: Iterable[Iterable[Word]], primary: Optional[Iterable[Hashable
 
 def chosen(options: Iterable[Option], primary: Optional[Iterable[Hashable]] = None, secondary: Iterable[Hashable] = (),
            seconds: Optional[float] = None, *, nodes: Optional[int] = None, workers: Optional[int] = None, audit: bool = False) -> Optional[list[Option]]:
-    """The options of one exact cover, as they were given and in their order, or None where there is none: `Problem.chosen`."""
+    """The options of one exact cover, as they were given and in their order, or None where there is none:
+    `Problem.chosen`."""
     want_list(options)
     given = list(options)
     places = solve(given, primary, secondary, seconds, nodes=nodes, workers=workers, audit=audit)

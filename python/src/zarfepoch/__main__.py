@@ -1,5 +1,5 @@
-"""The command zarfepoch: answers a puzzle of a kind, or a problem that is given as JSON, or calls a tool of the package if its first word names one.
-`zarfepoch --help` describes it (`solved`).
+"""The command zarfepoch: answers a puzzle of a kind, or a problem that is given as JSON, or calls a tool of the package
+if its first word names one. `zarfepoch --help` describes it (`solved`).
 """
 from __future__ import annotations
 
@@ -16,7 +16,8 @@ from .solved import command_line, kind_missing, solve_kind
 
 
 def is_name(value: object) -> bool:
-    """Whether a value of JSON may be an item or a colour; true and false would be equal to 1 and 0 here, and null to no colour."""
+    """Whether a value of JSON may be an item or a colour; true and false would be equal to 1 and 0 here, and null to no
+    colour."""
     return isinstance(value, (str, int, float)) and not isinstance(value, bool)
 
 

@@ -2,12 +2,13 @@
 
     zarfepoch-another FILE ANSWER .. > OTHER
 
-A cover that isn't a given one lacks some option of it. So there is a primary item more for each answer, and for each option of the answer one
-that names this item and bars the option: it gives an item of the option's own another colour than the option does. Where that would be more than the
-program reads, only options are barred from which the others of the answer follow, one by one, so each other cover lacks one of them. An answer to OTHER may be
-an ANSWER too; its further items are passed over. Of options that stand several times in a file all count as one. The exit status is 0, 2 for a
-mistake on the command line, 3 for a file or an answer that can't be read, an answer that is no exact cover, a problem that would be too large, or
-where the standard output can't be written.
+A cover that isn't a given one lacks some option of it. So there is a primary item more for each answer, and for each
+option of the answer one that names this item and bars the option: it gives an item of the option's own another colour
+than the option does. Where that would be more than the program reads, only options are barred from which the others of
+the answer follow, one by one, so each other cover lacks one of them. An answer to OTHER may be an ANSWER too; its
+further items are passed over. Of options that stand several times in a file all count as one. The exit status is 0, 2
+for a mistake on the command line, 3 for a file or an answer that can't be read, an answer that is no exact cover, a
+problem that would be too large, or where the standard output can't be written.
 """
 from __future__ import annotations
 

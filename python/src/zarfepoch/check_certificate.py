@@ -1,7 +1,8 @@
 """Checks that a certificate shows that a problem has no exact cover.
 
-docs/FORMAT.md describes both files. Nothing else is used, so that whoever doubts an answer can read all that checks it. It prints `right` with
-status 0, or `wrong: line N: ` and what was expected with 1; status 2 is for other words, 3 for an unread file."""
+docs/FORMAT.md describes both files. Nothing else is used, so that whoever doubts an answer can read all that checks it.
+It prints `right` with status 0, or `wrong: line N: ` and what was expected with 1; status 2 is for other words, 3 for
+an unread file."""
 import argparse
 import functools
 import sys

@@ -2,15 +2,16 @@
 
     zarfepoch-check-reason FILE REASON
 
-REASON is a file with what `why` wrote, or - for the standard input. No search and no part of the program is needed: an exact cover names
-each primary item once. So where the weights in each option are a multiple of the modulus, all weights together are one; and where
-each option brings as much room as it needs, all needs together are at most all rooms. Where they are as much, the cover also names each item that
-has room once, so a reason behind it counts these as primary. Of a clique, options each two of which clash, the cover has one at most, so an item that
-all of them name may have room, too. And of the options of a primary item the cover has just one, so where each of them has a reason that holds of the
+REASON is a file with what `why` wrote, or - for the standard input. No search and no part of the program is needed: an
+exact cover names each primary item once. So where the weights in each option are a multiple of the modulus, all weights
+together are one; and where each option brings as much room as it needs, all needs together are at most all rooms. Where
+they are as much, the cover also names each item that has room once, so a reason behind it counts these as primary. Of a
+clique, options each two of which clash, the cover has one at most, so an item that all of them name may have room, too.
+And of the options of a primary item the cover has just one, so where each of them has a reason that holds of the
 options that are left beside it, there is none.
 
-The exit status is 0 where the reason holds, 1 where it doesn't, 2 for a mistake on the command line, 3 for a file that can't be read, a FILE
-that the program refuses, or where the standard output can't be written.
+The exit status is 0 where the reason holds, 1 where it doesn't, 2 for a mistake on the command line, 3 for a file that
+can't be read, a FILE that the program refuses, or where the standard output can't be written.
 """
 from __future__ import annotations
 
@@ -71,7 +72,8 @@ def add_up(primary: set[bytes], options: Lines, lines: Lines) -> str:
 
 
 def check_cases(primary: set[bytes], options: Lines, lines: Lines) -> str:
-    """What is wrong with a reason for each option of an item; nothing where each holds of that option and those that don't clash with it."""
+    """What is wrong with a reason for each option of an item; nothing where each holds of that option and those that
+    don't clash with it."""
     _, _, item = lines[0]
     heads = [place for place, words in enumerate(lines) if words[0] == b"option"]
     numbers = [int(number) for _, number in (lines[place] for place in heads)]
@@ -90,7 +92,8 @@ def check_cases(primary: set[bytes], options: Lines, lines: Lines) -> str:
 
 
 def amounts_of(lines: Lines) -> list[dict[bytes, int]]:
-    """The weights, the needs and the rooms that these lines give to items; a ValueError where a number isn't one from 0."""
+    """The weights, the needs and the rooms that these lines give to items; a ValueError where a number isn't one from
+    0."""
     amounts: dict[bytes, dict[bytes, int]] = {b"weigh": {}, b"need": {}, b"room": {}}
     for kind, number, name in lines:
         if not number.isdigit():

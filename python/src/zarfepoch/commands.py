@@ -1,6 +1,7 @@
-"""The commands that pip and scripts/install.sh put on the path, each the main function of a module of the package: `zarfepoch-explain` is
-that of `explain`, `zarfepoch-why-none` that of `why_none`, and `zarfepoch` that of the package. This is the list of them; pip has it once more, in
-pyproject.toml, and finds each by the name of its module, or of the package.
+"""The commands that pip and scripts/install.sh put on the path, each the main function of a module of the package:
+`zarfepoch-explain` is that of `explain`, `zarfepoch-why-none` that of `why_none`, and `zarfepoch` that of the package.
+This is the list of them; pip has it once more, in pyproject.toml, and finds each by the name of its module, or of the
+package.
 """
 from __future__ import annotations
 

@@ -3,29 +3,34 @@
     zarfepoch-draw FILE ANSWER [--svg OUT] [--plan NAME ..] [--csv PLAN.csv] [--grid WEEK.csv] [--out-dir FOLDER]
     solve_cli answer FILE | zarfepoch-draw FILE -
 
-The kind of picture follows from the names of the items: tilings (cells are named by row and column, as 07, 0011 or 3-12) and solids (by layer,
-row and column, as 0-1-2), queens (r0 c0 and diagonals), sudokus (p00 r01 c01 b01, with regions of any shape, diagonals x1 y1, cages k0.1),
-kakuros (12 a5.8 d2.8), Langford pairs (1 s1 s3), timetables (ann-1), map colourings (A-B=red), perfect matchings of a graph (options of two
-items), lines through points (12 13 23); of problems with colours squares with coloured sides (12 h12:red v13:blue ..), words that cross
-(12:b 13:e), nonograms and star battles (row0 00:black ..), and cubes in a row. What isn't known is written as a list. Of the answer `none` the
-empty board is drawn where there is one; what `solve --audit` or `answer --reason` writes behind it is passed over. One of FILE and ANSWER may be
-`-`, the standard input. Where OUT is `-` the SVG is written in place of the text.
+The kind of picture follows from the names of the items: tilings (cells are named by row and column, as 07, 0011 or
+3-12) and solids (by layer, row and column, as 0-1-2), queens (r0 c0 and diagonals), sudokus (p00 r01 c01 b01, with
+regions of any shape, diagonals x1 y1, cages k0.1), kakuros (12 a5.8 d2.8), Langford pairs (1 s1 s3), timetables
+(ann-1), map colourings (A-B=red), perfect matchings of a graph (options of two items), lines through points (12 13 23);
+of problems with colours squares with coloured sides (12 h12:red v13:blue ..), words that cross (12:b 13:e), nonograms
+and star battles (row0 00:black ..), and cubes in a row. What isn't known is written as a list. Of the answer `none` the
+empty board is drawn where there is one; what `solve --audit` or `answer --reason` writes behind it is passed over. One
+of FILE and ANSWER may be `-`, the standard input. Where OUT is `-` the SVG is written in place of the text.
 
-Of a timetable whose periods have their days (Mon1) a plan is drawn for each class, or for those whom --plan names: names of classes, teachers
-or rooms, or classes, teachers, rooms or all. A week begins with Monday, and a sheet is at most 1,200 pixels wide. --csv writes the plan as a
-table, a row for each time that a lesson is given, for a spreadsheet and for zarfepoch-generate timetable --keep. --grid writes the same plans as are drawn, as
-a table that people read, with a row for each number of a period and a column for each day. Where one of these files is `-`, it is written in place of
-the text. --out-dir writes a picture NAME.svg and such a table NAME.csv into a folder for each of those whose plans are drawn.
+Of a timetable whose periods have their days (Mon1) a plan is drawn for each class, or for those whom --plan names:
+names of classes, teachers or rooms, or classes, teachers, rooms or all. A week begins with Monday, and a sheet is at
+most 1,200 pixels wide. --csv writes the plan as a table, a row for each time that a lesson is given, for a spreadsheet
+and for zarfepoch-generate timetable --keep. --grid writes the same plans as are drawn, as a table that people read,
+with a row for each number of a period and a column for each day. Where one of these files is `-`, it is written in
+place of the text. --out-dir writes a picture NAME.svg and such a table NAME.csv into a folder for each of those whose
+plans are drawn.
 
-Comments of the file that zarfepoch-generate writes say what items can't: the given digits of a sudoku, its regions and the marks for its digits
-(`| given: 4.3. ..`, `| regions: aabb ..`, `| digits: 0123..`), the grid of a crossword (`| grid: ..#.. ..`), the size of a kakuro, the
-shapes of pieces that have no item (`| piece L: xxx/x..`), who is a teacher, a class or a room (`| teachers: ann bob`), the order of
-periods, who takes part in a lesson without an item (`| also maths: hall`), the lesson that another follows (`| follows lab: chemistry`), their lengths
-and titles, and the names that numbers mean (`| name 7: Mathematics for beginners`). Where a comment contradicts the items it is passed over.
+Comments of the file that zarfepoch-generate writes say what items can't: the given digits of a sudoku, its regions and
+the marks for its digits (`| given: 4.3. ..`, `| regions: aabb ..`, `| digits: 0123..`), the grid of a crossword
+(`| grid: ..#.. ..`), the size of a kakuro, the shapes of pieces that have no item (`| piece L: xxx/x..`), who is a
+teacher, a class or a room (`| teachers: ann bob`), the order of periods, who takes part in a lesson without an item
+(`| also maths: hall`), the lesson that another follows (`| follows lab: chemistry`), their lengths and titles, and the
+names that numbers mean (`| name 7: Mathematics for beginners`). Where a comment contradicts the items it is passed
+over.
 
-The picture shows what the answer says; whether that is right is for the program to say (solve_cli check FILE ANSWER). The
-exit status is 0, 2 for a mistake on the command line, 3 for a file or an answer that can't be read, or where a picture or the standard output can't
-be written.
+The picture shows what the answer says; whether that is right is for the program to say (solve_cli check FILE ANSWER).
+The exit status is 0, 2 for a mistake on the command line, 3 for a file or an answer that can't be read, or where a
+picture or the standard output can't be written.
 """
 from __future__ import annotations
 

@@ -11,8 +11,8 @@ class Error(Exception):
 class ProblemError(Error, ValueError):
     """A problem that can't be meant so.
 
-    `option` is the place of the option that is wrong, from 0, `item` the item, and `line` the line of a file that was read; each is None
-    where there is none.
+    `option` is the place of the option that is wrong, from 0, `item` the item, and `line` the line of a file that was
+    read; each is None where there is none.
     """
 
     def __init__(self, why: str, *, option: Optional[int] = None, item: object = None, line: Optional[int] = None) -> None:

@@ -2,16 +2,18 @@
 
     zarfepoch-explain FILE [ANSWER]
 
-docs/FORMAT.md has the format; one of the files may be `-`, the standard input. For a file that the program refuses it lists the first
-200 mistakes, each with its line, its column (in characters, from 1; a tab is one), the word, and what was expected; the first line is
-what the program says of it. For a right file it prints the counts, the options that are ignored, and what may surprise: primary items
-in no option or in only one, forced options that clash and what both need, too little room (as 25 lessons for 24 periods, where the
-program is built and finds it), items that always go together, options that name the same items, items that have a colour in some options
-and none in others, colours that no two options give. For an answer it lists the first 200 mistakes, each uncovered item, and for each
-item that is covered twice the options that do it, with the colours that they give it.
+docs/FORMAT.md has the format; one of the files may be `-`, the standard input. For a file that the program refuses it
+lists the first 200 mistakes, each with its line, its column (in characters, from 1; a tab is one), the word, and what
+was expected; the first line is what the program says of it. For a right file it prints the counts, the options that are
+ignored, and what may surprise: primary items in no option or in only one, forced options that clash and what both need,
+too little room (as 25 lessons for 24 periods, where the program is built and finds it), items that always go together,
+options that name the same items, items that have a colour in some options and none in others, colours that no two
+options give. For an answer it lists the first 200 mistakes, each uncovered item, and for each item that is covered
+twice the options that do it, with the colours that they give it.
 
-It explains and decides nothing: whether an answer is right, and above all `none`, only the program can say. The exit status is 0 if
-nothing is wrong, 1 if something is, 2 for a mistake on the command line, 3 for a file that can't be read or where the standard output can't be written.
+It explains and decides nothing: whether an answer is right, and above all `none`, only the program can say. The exit
+status is 0 if nothing is wrong, 1 if something is, 2 for a mistake on the command line, 3 for a file that can't be read
+or where the standard output can't be written.
 """
 from __future__ import annotations
 

@@ -6,11 +6,12 @@
 
 %KINDS%
 
-FILE may be -, the standard input. The first line of each problem is a comment that tells what it is and how it was made. A problem beyond
-1,000 items, 20,000 options, 200,000 occurrences of items in them or 10,000 colours is refused, since the program reads no such file. It
-wants no built program. The exit status is 0; 1 where counting shows that there is no cover, as of more lessons than periods; 2 for a
-mistake on the command line, a folder or file that can't be written, or a problem of a kind without a FILE that is refused; 3 for a FILE
-that can't be read or meant or makes too large a problem, or where the standard output can't be written.
+FILE may be -, the standard input. The first line of each problem is a comment that tells what it is and how it was
+made. A problem beyond 1,000 items, 20,000 options, 200,000 occurrences of items in them or 10,000 colours is refused,
+since the program reads no such file. It wants no built program. The exit status is 0; 1 where counting shows that there
+is no cover, as of more lessons than periods; 2 for a mistake on the command line, a folder or file that can't be
+written, or a problem of a kind without a FILE that is refused; 3 for a FILE that can't be read or meant or makes too
+large a problem, or where the standard output can't be written.
 """
 from __future__ import annotations
 

@@ -2,20 +2,24 @@
 
     zarfepoch-join FOLDER [--left] [--certificate OUT]
 
-It writes a cover of the whole file as soon as one part has one: the part's options with those of its prefix, counted here, in the order of the
-file. It writes `none` only if each part of the list has the answer `none`, and is to the byte what zarfepoch-split writes now of FOLDER/whole.dlx; the list
-is compared too. Else it writes `no answer`, and standard error names the parts without an answer, as Slurm's --array reads them. The answer of
-part-7.dlx is what the program wrote, in part-7.answer. A file that is empty, or says `no answer`, is no answer.
+It writes a cover of the whole file as soon as one part has one: the part's options with those of its prefix, counted
+here, in the order of the file. It writes `none` only if each part of the list has the answer `none`, and is to the byte
+what zarfepoch-split writes now of FOLDER/whole.dlx; the list is compared too. Else it writes `no answer`, and standard
+error names the parts without an answer, as Slurm's --array reads them. The answer of part-7.dlx is what the program
+wrote, in part-7.answer. A file that is empty, or says `no answer`, is no answer.
 
-Standard error names each part that was changed or is missing, and each answer that is refused or is no cover. With --left it writes, in place of an
-answer, the paths of the parts that are still to be searched, a line each; after a cover there are none.
+Standard error names each part that was changed or is missing, and each answer that is refused or is no cover. With
+--left it writes, in place of an answer, the paths of the parts that are still to be searched, a line each; after a
+cover there are none.
 
-With --certificate a part's `none` counts only by a certificate, in part-7.certificate, which is checked here: it takes the place of the answer. Where
-all parts have one, OUT gets the certificate of the whole that they make together, which is checked too. They have to be of one kind, all by cases or
-all by clauses. (docs/FORMAT.md describes them.) Where the whole isn't `none`, OUT is left as it was.
+With --certificate a part's `none` counts only by a certificate, in part-7.certificate, which is checked here: it takes
+the place of the answer. Where all parts have one, OUT gets the certificate of the whole that they make together, which
+is checked too. They have to be of one kind, all by cases or all by clauses. (docs/FORMAT.md describes them.) Where the
+whole isn't `none`, OUT is left as it was.
 
-It wants no built program. The exit status is 0 for a cover, 1 for `none`, 4 for `no answer`, 2 for a mistake on the command line, and 3 where,
-without a cover, something was changed, is missing or wrong, or where the standard output can't be written.
+It wants no built program. The exit status is 0 for a cover, 1 for `none`, 4 for `no answer`, 2 for a mistake on the
+command line, and 3 where, without a cover, something was changed, is missing or wrong, or where the standard output
+can't be written.
 """
 from __future__ import annotations
 
@@ -38,7 +42,8 @@ MOST_NAMED = 20
 
 
 class Part(NamedTuple):
-    """What there is of a part: a cover of the whole, `none`, or neither; what is wrong, if anything is; and of a certificate its kind."""
+    """What there is of a part: a cover of the whole, `none`, or neither; what is wrong, if anything is; and of a
+    certificate its kind."""
     number: int
     cover: Optional[bytes] = None
     is_none: bool = False
@@ -47,7 +52,8 @@ class Part(NamedTuple):
 
 
 def wrong_in(answer: Answer, tree: Tree, prefix: Prefix) -> Optional[str]:
-    """Why the answer of a part and its prefix are no cover of the whole, in the program's words. It gets the options of the prefix too."""
+    """Why the answer of a part and its prefix are no cover of the whole, in the program's words. It gets the options of
+    the prefix too."""
     if answer.faults:
         return "refused: " + refusal(answer.faults)
     answer.chosen.extend(([], place) for place in prefix.options)
@@ -93,7 +99,8 @@ def changed_in(path: str, text: bytes) -> Optional[str]:
 
 
 def compared(part: Part, folder: str, text: bytes) -> Part:
-    """A part whose answer counts only if its problem is what zarfepoch-split writes; a cover of the whole was counted, and stays one."""
+    """A part whose answer counts only if its problem is what zarfepoch-split writes; a cover of the whole was counted,
+    and stays one."""
     fault = changed_in(path_in(folder, part_name(part.number)), text)
     return part._replace(is_none=False, fault=fault) if fault else part
 
@@ -171,7 +178,8 @@ def status_of(cover: Optional[bytes], parts: list[Part], left: list[int]) -> int
 
 
 def write_certificate(tree: Tree, found: Split, folder: str, parts: list[Part], out: str) -> None:
-    """Writes the certificate that those of the parts make together; ends the script where there is none of the whole, or it can't be written."""
+    """Writes the certificate that those of the parts make together; ends the script where there is none of the whole,
+    or it can't be written."""
     other = next((part for part in parts if part.kind != parts[0].kind), None)
     if other:
         stop(f"the certificates of parts 1 and {other.number} are of two kinds, by {parts[0].kind.decode()} and by {other.kind.decode()}, and all have "

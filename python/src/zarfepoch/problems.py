@@ -51,20 +51,22 @@ def parts_of(word: Word) -> tuple[Hashable, Optional[Hashable]]:
 
 
 class Clique(NamedTuple):
-    """Options each two of which clash, by their places: a cover has one of them at most, so a clique counts as a secondary item of all of them."""
+    """Options each two of which clash, by their places: a cover has one of them at most, so a clique counts as a
+    secondary item of all of them."""
     places: tuple[int, ...]
 
 
 class Reason(NamedTuple):
     """Why there is no cover, so that anybody can add it up.
 
-    With a `modulus`, the `weights` of each option's items add up to a multiple of it, and all weights together don't. Without one, each option
-    brings at least as much room as it needs, and all `needs` together are more than all `rooms`. The rest of the items count as 0. Secondary items
-    in `full_rooms` may have weights and needs, too: each cover uses them, since each option brings at least as much of this room as it has
-    `full_needs`, and all of these together are as much as all of this room. Beside items there may be a `Clique`.
+    With a `modulus`, the `weights` of each option's items add up to a multiple of it, and all weights together don't.
+    Without one, each option brings at least as much room as it needs, and all `needs` together are more than all
+    `rooms`. The rest of the items count as 0. Secondary items in `full_rooms` may have weights and needs, too: each
+    cover uses them, since each option brings at least as much of this room as it has `full_needs`, and all of these
+    together are as much as all of this room. Beside items there may be a `Clique`.
 
-    Or there are `cases`: for each option of an item, by its place, a reason that holds of it and of the options that don't clash with it. A cover
-    has just one of them.
+    Or there are `cases`: for each option of an item, by its place, a reason that holds of it and of the options that
+    don't clash with it. A cover has just one of them.
     """
     modulus: Optional[int]
     weights: dict[Hashable, int]
@@ -104,8 +106,9 @@ def checked_seconds(seconds: Optional[float]) -> Optional[float]:
 class Problem:
     """Primary and secondary items, and options, which are lists of them.
 
-    Items are whatever can be a key of a dict; where `primary` isn't told, it is all items of the options that aren't secondary. `problem[place]` is an
-    option, `len(problem)` how many there are, and a loop goes over all of them. Each option is checked as it is added.
+    Items are whatever can be a key of a dict; where `primary` isn't told, it is all items of the options that aren't
+    secondary. `problem[place]` is an option, `len(problem)` how many there are, and a loop goes over all of them. Each
+    option is checked as it is added.
     """
 
     def __init__(self, primary: Optional[Iterable[Hashable]] = None, secondary: Iterable[Hashable] = (),
@@ -173,9 +176,10 @@ class Problem:
               audit: bool = False) -> Optional[list[int]]:
         """The places of the options of one exact cover, in rising order, or None where there is none.
 
-        It takes whatever is first of the ways of `solve_cli answer`, on all processors. With `nodes` (1 to 16) and `workers` (1 to 8) several threads
-        search, as `solve_cli solve` does; with `audit` their run is audited, so that None is right whatever the network did. Raises `TimeIsUp` after
-        so many seconds, `OutOfMemory`, or a `ProgramError`; `WrongNumber` for a number that can't be.
+        It takes whatever is first of the ways of `solve_cli answer`, on all processors. With `nodes` (1 to 16) and
+        `workers` (1 to 8) several threads search, as `solve_cli solve` does; with `audit` their run is audited, so that
+        None is right whatever the network did. Raises `TimeIsUp` after so many seconds, `OutOfMemory`, or a
+        `ProgramError`; `WrongNumber` for a number that can't be.
         """
         threads = number_in(nodes, "nodes", MOST_NODES) + number_in(workers, "workers", MOST_WORKERS)
         words = ["solve", "-", *threads, *["--audit"] * audit] if threads or audit else ["answer", "-"]
@@ -192,9 +196,9 @@ class Problem:
         return None if places is None else [self[place] for place in places]
 
     def covers(self, seconds: Optional[float] = None) -> Iterator[list[int]]:
-        """Each exact cover once, as the places of its options. A plain search in Python goes through all of them; where it meets none for a while,
-        the program is asked meanwhile whether there are any in the rest (`all_covers`). `TimeIsUp` where neither a cover nor the end comes in so
-        many seconds."""
+        """Each exact cover once, as the places of its options. A plain search in Python goes through all of them; where
+        it meets none for a while, the program is asked meanwhile whether there are any in the rest (`all_covers`).
+        `TimeIsUp` where neither a cover nor the end comes in so many seconds."""
         limit, program = checked_seconds(seconds), find_program()
         tree = Tree(cover_files.read_problem(self._numbered_text(self._numbered_lines())))
         kept = [place for place, option in enumerate(self) if self._is_kept(option)]
@@ -203,8 +207,8 @@ class Problem:
             yield from (sorted(kept[place] for place in cover) for cover in found)
 
     def reason(self, seconds: Optional[float] = None) -> Optional[Reason]:
-        """Why there is no cover, if the program finds a reason without a search, or counting items that are alike does. None says nothing. `TimeIsUp` where
-        neither comes to its end in so many seconds."""
+        """Why there is no cover, if the program finds a reason without a search, or counting items that are alike does.
+        None says nothing. `TimeIsUp` where neither comes to its end in so many seconds."""
         limit = checked_seconds(seconds)
         until = None if limit is None else time.monotonic() + limit
         status, answer, why = self._ask(["why", "-"], self._numbered_lines(), seconds)
@@ -233,7 +237,8 @@ class Problem:
         return Reason(found.modulus or None, weights, needs, rooms, full_needs, full_rooms, cases)
 
     def is_cover(self, places: Iterable[int]) -> bool:
-        """Whether the options at these places are an exact cover, by counting; `ProblemError` where there is no option at one."""
+        """Whether the options at these places are an exact cover, by counting; `ProblemError` where there is no option
+        at one."""
         places = list(places)
         for place in places:
             if not 0 <= place < len(self):
@@ -247,7 +252,8 @@ class Problem:
     # ---- what the program reads
 
     def _numbered_lines(self) -> list[str]:
-        """The options as the program gets them: items and colours go by their numbers, so that every name is lawful there."""
+        """The options as the program gets them: items and colours go by their numbers, so that every name is lawful
+        there."""
         colours: dict[Hashable, int] = {}
         lines = []
         for option in self._options:
@@ -273,11 +279,12 @@ class Problem:
         return "".join(line + "\n" for line in [" ".join(names), *kept]).encode()
 
     def _ask(self, words: list[str], lines: list[str], seconds: Optional[float]) -> tuple[int, list[str], str]:
-        """The program's exit status, the lines that it writes, and what it says on standard error. It reads its standard input, so that no file
-        is left behind, whatever ends Python."""
+        """The program's exit status, the lines that it writes, and what it says on standard error. It reads its
+        standard input, so that no file is left behind, whatever ends Python."""
         limit = checked_seconds(seconds)
         text = self._numbered_text(lines)
-        # (where the system can't end a program whose Python was killed, it ends by itself, a second after it should have)
+        # (where the system can't end a program whose Python was killed, it ends by itself, a second after it should
+        # have)
         own = ["--seconds", str(math.ceil(limit) + 1)] if limit is not None and limit < MOST_SECONDS and words[0] != "why" else []
         try:
             ran = subprocess.run(dying_with_parent([find_program(), *words, *own]), input=text, capture_output=True, timeout=limit)
@@ -291,8 +298,8 @@ class Problem:
 
     @classmethod
     def parse(cls, text: Union[bytes, str]) -> Problem:
-        """The problem that the text of a file says. Items and colours are texts; options without a primary item are kept too. A text that is refused
-        raises the error of the first cause, with its line."""
+        """The problem that the text of a file says. Items and colours are texts; options without a primary item are
+        kept too. A text that is refused raises the error of the first cause, with its line."""
         read = cover_files.read_problem(text.encode("utf-8", "surrogateescape") if isinstance(text, str) else text)
         if read.faults:
             first = read.faults[0]
@@ -313,7 +320,8 @@ class Problem:
             return cls.parse(file.read())
 
     def text(self) -> bytes:
-        """The text of the problem's file. Items and colours have to be texts that can be names there (docs/FORMAT.md), and each option names some."""
+        """The text of the problem's file. Items and colours have to be texts that can be names there (docs/FORMAT.md),
+        and each option names some."""
         for item in self._places:
             checked_name(item, None)
         for place, option in enumerate(self._options):
@@ -357,7 +365,8 @@ def want_list(options: object) -> None:
 
 
 def option_in(option: Iterable[Word], place: int) -> tuple[Word, ...]:
-    """An option of a list; `ProblemError` where it is one text or a dict, of which letters or keys would be the items, or no list."""
+    """An option of a list; `ProblemError` where it is one text or a dict, of which letters or keys would be the items,
+    or no list."""
     if isinstance(option, (str, bytes, Mapping)):
         what, item = ("a dict", "item") if isinstance(option, Mapping) else (f"the text {option!r}", repr(option))
         raise ProblemError(f"option {place} is {what}: a list of items is expected, as [{item}]", option=place)
@@ -392,7 +401,8 @@ def name_of_word(word: Word, place: int) -> str:
 
 
 def lines_chosen(status: int, answer: list[str], why: str) -> Optional[list[str]]:
-    """The lines of a cover in what the program wrote, or None where it says that there is none; raises what has failed."""
+    """The lines of a cover in what the program wrote, or None where it says that there is none; raises what has
+    failed."""
     if (status, answer[:1]) == (0, [f"cover {len(answer) - 1}"]):
         return answer[1:]
     if (status, answer) == (1, ["none"]):

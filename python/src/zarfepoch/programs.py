@@ -1,5 +1,6 @@
-"""The program solve_cli: where it is, and how commands ask it for an answer. It is what ZARFEPOCH names in the environment, else what is on the path,
-else what was built in this clone, with proofs or, if there is no other, without (scripts/build.sh --unproved)."""
+"""The program solve_cli: where it is, and how commands ask it for an answer. It is what ZARFEPOCH names in the
+environment, else what is on the path, else what was built in this clone, with proofs or, if there is no other, without
+(scripts/build.sh --unproved)."""
 from __future__ import annotations
 
 import os
@@ -26,13 +27,15 @@ def known_program() -> Optional[str]:
 
 
 def dying_with_parent(words: list[str]) -> list[str]:
-    """The words of a command that ends with the process that starts it, however that ends; where the system has no means for it, as they are."""
+    """The words of a command that ends with the process that starts it, however that ends; where the system has no
+    means for it, as they are."""
     setpriv = shutil.which("setpriv")
     return [setpriv, "--pdeathsig", "KILL", "--", *words] if setpriv else words
 
 
 def own_words(why: str) -> str:
-    """What the program says of a run without an answer, without the commands that it would advise and the package hasn't."""
+    """What the program says of a run without an answer, without the commands that it would advise and the package
+    hasn't."""
     return why.removeprefix("ended: ").replace(", or answer", "").replace(", or --unlimited", "")
 
 

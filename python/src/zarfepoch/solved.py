@@ -1,4 +1,5 @@
-"""Solves a puzzle or plans a school at once: reads it, asks the program, draws the answer, and says whether it is the only one.
+"""Solves a puzzle or plans a school at once: reads it, asks the program, draws the answer, and says whether it is the
+only one.
 
     zarfepoch KIND .. [--out FILE.svg] [--seconds N]
     zarfepoch --json FILE [--seconds N]
@@ -13,19 +14,22 @@ The kinds are %KINDS%;
                                                     plans a school, and writes the plan as a table too; --plan NAME .. draws the plans of these alone,
                                                     --grid WEEK.csv writes them as people read them, and --out-dir FOLDER each into files of its own
 
-Of each kind but timetables it is said whether the answer is the only one; --one leaves that out. Where there is no answer, it says why, if a reason
-is found without a search in what is left of N seconds, ten at most, and what may be mistyped: the puzzle is tried without each of its digits, sums or signs, for N
-seconds in all (5 where none are told). With --seconds N each search ends after N seconds; without, the first goes on until it is decided, and the one
-for another answer for 10 seconds. --all draws each solution, and --count says how many there are, or how many were found in N seconds. A timetable is
-looked for by many short searches first, since one in which the first choices are wrong seldom ends. --problem FILE keeps the problem that the program
-gets, and zarfepoch-why-none FILE --svg OUT draws the reason why it has no answer.
+Of each kind but timetables it is said whether the answer is the only one; --one leaves that out. Where there is no
+answer, it says why, if a reason is found without a search in what is left of N seconds, ten at most, and what may be
+mistyped: the puzzle is tried without each of its digits, sums or signs, for N seconds in all (5 where none are told).
+With --seconds N each search ends after N seconds; without, the first goes on until it is decided, and the one for
+another answer for 10 seconds. --all draws each solution, and --count says how many there are, or how many were found in
+N seconds. A timetable is looked for by many short searches first, since one in which the first choices are wrong seldom
+ends. --problem FILE keeps the problem that the program gets, and zarfepoch-why-none FILE --svg OUT draws the reason why
+it has no answer.
 
-With --json FILE an object with "options", and perhaps "primary", all other items where it isn't there, and "secondary" is read, in whose options a list of
-two is an item with its colour; the answer is printed as a list of places, or null. Items and colours are texts or numbers. FILE may be -, the
-standard input.
+With --json FILE an object with "options", and perhaps "primary", all other items where it isn't there, and "secondary"
+is read, in whose options a list of two is an item with its colour; the answer is printed as a list of places, or null.
+Items and colours are texts or numbers. FILE may be -, the standard input.
 
-The exit status is 0 where there is an answer, 1 where there is none, 2 for a mistake on the command line or where there is no program, 3 where
-something can't be read, meant or written, and 4 where there is no answer in time; with --json 3 for that too.
+The exit status is 0 where there is an answer, 1 where there is none, 2 for a mistake on the command line or where there
+is no program, 3 where something can't be read, meant or written, and 4 where there is no answer in time; with --json 3
+for that too.
 """
 from __future__ import annotations
 
@@ -108,8 +112,8 @@ def positive(text: str) -> float:
 
 
 def answer_of_school(program: str, timetable: Timetable, given: Namespace) -> ProgramAnswer:
-    """The program's answer to a timetable: for a third of the time, or two where a plan is kept, or by a part of the school that has none, or for the rest
-    of the time."""
+    """The program's answer to a timetable: for a third of the time, or two where a plan is kept, or by a part of the
+    school that has none, or for the rest of the time."""
     began, limit = time.monotonic(), given.seconds or 3 * TRY_SECONDS
     found = planned(program, timetable, bool(given.keep), (2 if given.keep else 1) * limit / 3)
     if (found is None or found.is_none) and timetable.school:
@@ -126,7 +130,8 @@ def answer_of_school(program: str, timetable: Timetable, given: Namespace) -> Pr
 
 @contextlib.contextmanager
 def told_waiting(so_far: Callable[[], str] = str) -> Iterator[None]:
-    """Says every ten seconds that a search goes on, and what it has found so far, if anything is to be said of that; at the end how long it took."""
+    """Says every ten seconds that a search goes on, and what it has found so far, if anything is to be said of that; at
+    the end how long it took."""
     began, over = time.monotonic(), threading.Event()
 
     def tell() -> None:
@@ -192,8 +197,8 @@ def draw(given: Namespace, picture: Kind, title: str) -> None:
 
 
 def tell_none(program: str, puzzle: Puzzle, problem: Problem, given: Namespace, began: float) -> None:
-    """Says that there is no solution, and why, where that takes no search and no more than what is left of the time, and what may be mistyped; where
-    neither is known, how a reason can be searched for."""
+    """Says that there is no solution, and why, where that takes no search and no more than what is left of the time,
+    and what may be mistyped; where neither is known, how a reason can be searched for."""
     print("There is no solution.", flush=True)
     left = OTHER_SECONDS if given.seconds is None else min(OTHER_SECONDS, given.seconds - (time.monotonic() - began))
     try:
@@ -222,7 +227,8 @@ def tell_unwritten(given: Namespace, hint: str = "") -> None:
 
 
 def tell_changes(program: str, changes: list[Change], seconds: Optional[float]) -> bool:
-    """Says after which small changes of the puzzle there is a solution: one of these may be what is mistyped. Whether anything is said."""
+    """Says after which small changes of the puzzle there is a solution: one of these may be what is mistyped. Whether
+    anything is said."""
     sys.stdout.flush()
     lines = change_lines(program, changes, seconds or CHANGE_SECONDS)
     print("".join(line + "\n" for line in lines), end="")
@@ -283,7 +289,8 @@ def all_solutions(program: str, puzzle: Puzzle, problem: Problem, given: Namespa
 
 
 def kept_words(timetable: Timetable, answer: bytes, plan: Plan) -> str:
-    """How many times of lessons stay in their periods, whichever of a lesson's times each is, and which lessons moved."""
+    """How many times of lessons stay in their periods, whichever of a lesson's times each is, and which lessons
+    moved."""
     lines = set(answer.decode("utf-8").splitlines()[1:])
     chosen = [one for one in timetable.ranked if one.lessons and " ".join(one.option) in lines]
     lessons = [timetable.lessons[name] for one in chosen for name in one.lessons]

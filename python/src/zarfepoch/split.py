@@ -2,15 +2,17 @@
 
     zarfepoch-split FILE --parts N --into FOLDER
 
-The search tree of FILE is taken apart by the branching of the program, breadth first, until at least N prefixes are open. FOLDER, which is made
-and must be missing or empty, gets part-1.dlx and so on in the order of the search, whole.dlx (a copy of FILE), and parts.txt, the list of all
-prefixes with the numbers of their options from 0. In a part the options of the prefix and what they bar are gone, and its first lines, which
-are comments, name the prefix. So the covers of a part, each with its prefix, are the covers of FILE that extend the prefix. A prefix with an item
-that has no option left is closed, and the list says so. If a prefix is a cover, there are no parts, and the list has the cover alone.
+The search tree of FILE is taken apart by the branching of the program, breadth first, until at least N prefixes are
+open. FOLDER, which is made and must be missing or empty, gets part-1.dlx and so on in the order of the search,
+whole.dlx (a copy of FILE), and parts.txt, the list of all prefixes with the numbers of their options from 0. In a part
+the options of the prefix and what they bar are gone, and its first lines, which are comments, name the prefix. So the
+covers of a part, each with its prefix, are the covers of FILE that extend the prefix. A prefix with an item that has no
+option left is closed, and the list says so. If a prefix is a cover, there are no parts, and the list has the cover
+alone.
 
-zarfepoch-join FOLDER reads the answers of the parts; docs/MACHINES.md shows how they are searched. FILE may be -, the standard input. It wants no
-built program. The exit status is 0, 2 for a mistake on the command line, or 3 for a file that can't be read or is refused, or where a folder
-or the standard output can't be written.
+zarfepoch-join FOLDER reads the answers of the parts; docs/MACHINES.md shows how they are searched. FILE may be -, the
+standard input. It wants no built program. The exit status is 0, 2 for a mistake on the command line, or 3 for a file
+that can't be read or is refused, or where a folder or the standard output can't be written.
 """
 from __future__ import annotations
 

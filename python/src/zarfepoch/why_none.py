@@ -2,21 +2,24 @@
 
     zarfepoch-why-none FILE [--svg OUT] [--search] [--fuel N]
 
-First it asks the program for a reason (solve_cli why FILE): an item in no option; too little room, as 25 lessons for the 24 periods
-of their teacher; or weights that each option adds up to 0 modulo some number, and all items together don't, as the colours of a
-chessboard. Where it has none, this counts items that are alike, for ten seconds at most: nine people who meet in threes on five evenings make
-45 meetings of two, and there are 36 pairs, each of which may meet once. That takes no search. It adds the reason up again by itself, and --svg draws it: the
-board in the colours of the weights, where the items are cells of one, else the items beside what they weigh, need or have room for. Of reasons for
+First it asks the program for a reason (solve_cli why FILE): an item in no option; too little room, as 25 lessons for
+the 24 periods of their teacher; or weights that each option adds up to 0 modulo some number, and all items together
+don't, as the colours of a chessboard. Where it has none, this counts items that are alike, for ten seconds at most:
+nine people who meet in threes on five evenings make 45 meetings of two, and there are 36 pairs, each of which may meet
+once. That takes no search. It adds the reason up again by itself, and --svg draws it: the board in the colours of the
+weights, where the items are cells of one, else the items beside what they weigh, need or have room for. Of reasons for
 each option of an item it draws the first. Without a reason there is no picture.
 
-Where the program finds no reason, or with --search, and answers `none`, this takes primary items away as long as it still does: half of
-those that are left at a time, then one by one. What is left can't be covered, and would be without any one of its items. (Where a
-question isn't answered within N visits, 1,000,000 where no number is given, its items stay, so there may be more of them than are
-needed.) It prints these items with the options that name them, and why, where that is plain: two items any two options of which clash.
+Where the program finds no reason, or with --search, and answers `none`, this takes primary items away as long as it
+still does: half of those that are left at a time, then one by one. What is left can't be covered, and would be without
+any one of its items. (Where a question isn't answered within N visits, 1,000,000 where no number is given, its items
+stay, so there may be more of them than are needed.) It prints these items with the options that name them, and why,
+where that is plain: two items any two options of which clash.
 
-It wants the program, and says how to build it where there is none. The exit status is 0 where there is no cover and a reason or items were found,
-1 where there is a cover or the search wasn't finished, 2 for a mistake on the command line or where the program can't be run, 3 for a file that can't
-be read or is refused, or where a picture or the standard output can't be written.
+It wants the program, and says how to build it where there is none. The exit status is 0 where there is no cover and a
+reason or items were found, 1 where there is a cover or the search wasn't finished, 2 for a mistake on the command line
+or where the program can't be run, 3 for a file that can't be read or is refused, or where a picture or the standard
+output can't be written.
 """
 from __future__ import annotations
 
@@ -40,7 +43,8 @@ from .reasons.even_room import any_reason
 # the exit status and the first word of each answer
 NONE, COVER, SPENT, OUT_OF_MEMORY = (1, b"none"), (0, b"cover"), (4, b"no"), (5, b"")
 SHOWN = 12
-# for so many seconds items that are alike are counted: who asks why has time for what takes `zarfepoch` and `reasons` too long
+# for so many seconds items that are alike are counted: who asks why has time for what takes `zarfepoch` and `reasons`
+# too long
 COUNTING = 10.0
 
 

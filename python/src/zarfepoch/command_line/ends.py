@@ -35,8 +35,9 @@ def status_of(main: Callable[[], Status]) -> Status:
 def run(main: Callable[[], Status]) -> NoReturn:
     """Runs a script's main function to its exit status.
 
-    A reader that goes away, as `head` does, ends it quietly, with status 3. Where the standard output is closed or takes no more, or
-    memory runs out, standard error has a line, too. A signal that ends it also ends the program that it runs; an interrupt is told nowhere.
+    A reader that goes away, as `head` does, ends it quietly, with status 3. Where the standard output is closed or
+    takes no more, or memory runs out, standard error has a line, too. A signal that ends it also ends the program that
+    it runs; an interrupt is told nowhere.
     """
     if signal.getsignal(signal.SIGINT) is signal.SIG_DFL:
         # (what starts a command leaves interrupts to the system until its modules are read)

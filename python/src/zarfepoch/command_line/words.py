@@ -17,8 +17,8 @@ OF_PROGRAM = ("answer", "alone", "check", "learn", "simulate", "solve", "why")
 
 
 def as_called(text: str) -> str:
-    """A text that names the tools as they are installed, `zarfepoch-explain`; in their place are modules, or the words of the launcher in a clone, if the
-    command was called so."""
+    """A text that names the tools as they are installed, `zarfepoch-explain`; in their place are modules, or the words
+    of the launcher in a clone, if the command was called so."""
     main = sys.modules["__main__"]
     launcher = getattr(main, "LAUNCHER", None)
     if launcher is not None:

@@ -21,14 +21,16 @@ class Word(NamedTuple):
 
 
 class Fault(NamedTuple):
-    """A fault by the program's name for it; `word` is None where it is a fault of a whole line, `line` where it is one of the file."""
+    """A fault by the program's name for it; `word` is None where it is a fault of a whole line, `line` where it is one
+    of the file."""
     name: str
     line: Optional[int]
     word: Optional[Word]
 
 
 class Option(NamedTuple):
-    """An option with the number of its line: its words as they stand, and of each the item's name and the colour, None where it has none."""
+    """An option with the number of its line: its words as they stand, and of each the item's name and the colour, None
+    where it has none."""
     line: int
     words: tuple[bytes, ...]
     names: tuple[bytes, ...]
@@ -77,7 +79,8 @@ def name_part(text: bytes) -> bytes:
 
 
 def parts_of(text: bytes) -> tuple[bytes, Optional[bytes]]:
-    """What a word of an option says: an item's name, and behind the first colon a colour's; None where no colon stands."""
+    """What a word of an option says: an item's name, and behind the first colon a colour's; None where no colon
+    stands."""
     name, colon, colour = text.partition(COLON)
     return name, colour if colon else None
 
@@ -114,8 +117,8 @@ class Problem:
     """What a problem file says, with all its faults in reading order.
 
     `items` leads each name to its number, in the order of the item line; the first `primary` are primary. `options` are
-    kept, `ignored` name no primary item, `comments` are texts. `colours` leads each colour of options that are kept to its
-    number from 1, in the order in which they first stand. After a fault these are what the rest of the file says.
+    kept, `ignored` name no primary item, `comments` are texts. `colours` leads each colour of options that are kept to
+    its number from 1, in the order in which they first stand. After a fault these are what the rest of the file says.
     """
 
     def __init__(self, lines: list[Line]) -> None:
@@ -212,7 +215,8 @@ class Answer:
     """What an answer says of a problem, with all its faults in the order of the program's tests.
 
     `kind` is "none", "cover" or None where the head is neither. `chosen` has a pair for each line behind the head that
-    is an option: its words, and the option's place in the problem. Where the head is missing all lines are read as options.
+    is an option: its words, and the option's place in the problem. Where the head is missing all lines are read as
+    options.
     """
 
     def __init__(self, lines: list[Line], problem: Problem) -> None:
@@ -298,7 +302,8 @@ def answer_lines(lines: list[Line]) -> list[Line]:
 
 
 def read_audited(text: bytes, problem: Problem) -> Answer:
-    """An answer, without what is written behind it if that is what is wrong with it: the line of an audit, or what it rests on."""
+    """An answer, without what is written behind it if that is what is wrong with it: the line of an audit, or what it
+    rests on."""
     lines = lines_of(text)
     answer = Answer(lines, problem)
     return Answer(answer_lines(lines), problem) if answer.faults else answer

@@ -1,4 +1,5 @@
-"""What each fault of a problem file or of an answer means, in words, with what was expected and the nearest name there is."""
+"""What each fault of a problem file or of an answer means, in words, with what was expected and the nearest name there
+is."""
 from __future__ import annotations
 
 import difflib

@@ -1,7 +1,8 @@
-"""The names that a problem's numbers stand for, where the file tells them: names of at most 32 bytes can't hold all that people write.
+"""The names that a problem's numbers stand for, where the file tells them: names of at most 32 bytes can't hold all
+that people write.
 
-A comment `| name 7: Mathematics for beginners` says that 7 stands for these words, alone (`7`), at a period (`7-Mon1`) or as one of several
-times (`7.2`).
+A comment `| name 7: Mathematics for beginners` says that 7 stands for these words, alone (`7`), at a period (`7-Mon1`)
+or as one of several times (`7.2`).
 """
 from __future__ import annotations
 
@@ -17,7 +18,8 @@ def full_names(comments: list[str]) -> dict[str, str]:
 
 
 def parted(names: dict[str, str], item: str) -> tuple[str, str] | None:
-    """The number in an item's name that has a name in full, and what stands behind it: it may stand before a last `-` or `.`."""
+    """The number in an item's name that has a name in full, and what stands behind it: it may stand before a last `-`
+    or `.`."""
     if item in names:
         return item, ""
     found = re.fullmatch(r"(.+)([-.][^-.]+)", item)

@@ -10,7 +10,8 @@ from typing import BinaryIO
 
 from ..command_line.ends import stop
 
-# kept options take some 15 MB at the limits of a problem; a file of far more, by comments and options that are ignored, is not read here
+# kept options take some 15 MB at the limits of a problem; a file of far more, by comments and options that are ignored,
+# is not read here
 LARGEST = 1 << 26
 
 
@@ -41,8 +42,8 @@ def standard_input() -> bytes:
 
 
 def read_bytes(path: str) -> bytes:
-    """All bytes of a file, or of the standard input, which is `-`; `Unreadable` where it is missing, a folder, too large, or refused
-    by the system."""
+    """All bytes of a file, or of the standard input, which is `-`; `Unreadable` where it is missing, a folder, too
+    large, or refused by the system."""
     if path == "-":
         return standard_input()
     if os.path.isdir(path):

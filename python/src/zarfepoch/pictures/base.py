@@ -42,7 +42,8 @@ def without_order(option: Iterable[str]) -> Names:
 
 
 def without_rules(option: Iterable[str]) -> Names:
-    """An option of a timetable without the items that only see to its rules, as maths<apart.Mon; nothing where it only keeps somebody free."""
+    """An option of a timetable without the items that only see to its rules, as maths<apart.Mon; nothing where it only
+    keeps somebody free."""
     names = tuple(option)
     return () if "<" in names[0] else tuple(name for name in names if "<" not in name)
 
@@ -55,7 +56,8 @@ def colours_of(option: Option) -> dict[str, str]:
 class Kind:
     """An answer to a problem of a kind: the chosen options, and whether the answer is `none`.
 
-    Options are tuples of names; `option_colours` and `chosen_colours` have beside each option the colours that it gives.
+    Options are tuples of names; `option_colours` and `chosen_colours` have beside each option the colours that it
+    gives.
     """
 
     # whether the kind is one of problems with colours, or else of those without; None where it may be either
@@ -81,8 +83,8 @@ class Kind:
 
     @functools.cached_property
     def offset(self) -> int:
-        """What is added to rows and columns so that they count from 1: nothing where no cell has a 0, unless the package has made the problem, which its
-        comment says."""
+        """What is added to rows and columns so that they count from 1: nothing where no cell has a 0, unless the
+        package has made the problem, which its comment says."""
         return int(any(MADE in comment for comment in self.comments) or any(0 in cell for cell in map(cell_of, self.items) if cell))
 
     def item_words(self, item: str) -> str:

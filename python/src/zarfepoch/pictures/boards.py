@@ -21,8 +21,8 @@ def piece_of(name: str) -> str:
 
 
 def names_told(comments: list[str], is_flat: bool) -> dict[tuple[Place, ...], str]:
-    """The names of pieces that have no items, by their cells in each turn at the origin, as comments tell their shapes. A piece that isn't
-    turned over comes before one that is."""
+    """The names of pieces that have no items, by their cells in each turn at the origin, as comments tell their shapes.
+    A piece that isn't turned over comes before one that is."""
     found = (re.fullmatch(r"\|\s*piece (\S+): ([x./ ]*x[x./ ]*)", comment) for comment in comments)
     told = [(match[1], layers_of(match[2].split("/"))) for match in found if match]
     return {tuple(turned): name for flips in (True, False) for name, cells in told for turned in orientations(cells, is_flat, flips)}
@@ -77,8 +77,8 @@ class Tiling(Kind):
 
 
 class Layers(Kind):
-    """Pieces that fill a solid of cells, named by layer, row and column as 0-1-2; its layers are drawn side by side. A piece whose name nothing
-    tells has the number of its option, so that its parts in several layers are known."""
+    """Pieces that fill a solid of cells, named by layer, row and column as 0-1-2; its layers are drawn side by side. A
+    piece whose name nothing tells has the number of its option, so that its parts in several layers are known."""
 
     CELL_NAME = re.compile(r"(\d{1,2})-(\d{1,2})-(\d{1,2})")
 

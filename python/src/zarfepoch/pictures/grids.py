@@ -13,7 +13,8 @@ WHITE, BLACK = "#fffdf8", "#3a3f47"
 
 
 class Kakuro(Kind):
-    """Digits in white cells; each run of them has a sum: `a1.7` is the 7 of the first run across, which a cell or the choice of digits takes."""
+    """Digits in white cells; each run of them has a sum: `a1.7` is the 7 of the first run across, which a cell or the
+    choice of digits takes."""
 
     def is_known(self) -> bool:
         cells, runs = self.cells(), [option for option in self.options if re.fullmatch(r"[ad]\d+", option[0])]
@@ -238,7 +239,8 @@ class Words(Kind):
         return found if self.cells() <= found else self.cells()
 
     def numbers(self) -> dict[Cell, str]:
-        """The number of each place for a word, by its first cell; none where places aren't numbered from 1, as in a square of words."""
+        """The number of each place for a word, by its first cell; none where places aren't numbered from 1, as in a
+        square of words."""
         found: dict[Cell, str] = {}
         for option, colours in zip(self.options, self.option_colours):
             place = re.fullmatch(r"(?:across|down)(\d+)", option[0])

@@ -1,4 +1,5 @@
-"""The kinds of pictures: each is known by the names of a problem's items, and draws an answer as text and on a sheet."""
+"""The kinds of pictures: each is known by the names of a problem's items, and draws an answer as text and on a
+sheet."""
 from __future__ import annotations
 
 import functools
@@ -175,7 +176,8 @@ class Matching(Kind):
         return [" - ".join(option) for option in self.chosen]
 
     def rings(self) -> list[list[str]]:
-        """The names by the letters at their front, the outer ring first; one ring where these don't make rings of one size."""
+        """The names by the letters at their front, the outer ring first; one ring where these don't make rings of one
+        size."""
         rings: dict[str, list[str]] = {}
         for item in self.items:
             rings.setdefault(item.rstrip("0123456789"), []).append(item)
@@ -281,8 +283,8 @@ class Squares(Kind):
 
     @staticmethod
     def laid(option: Names, colours: dict[str, str]) -> Optional[Laid]:
-        """The cell of an option, the square's name, and the colours of its sides from the top on clockwise; None where it has no
-        such form."""
+        """The cell of an option, the square's name, and the colours of its sides from the top on clockwise; None where
+        it has no such form."""
         cells, names = ([name for name in option if name not in colours and bool(cell_of(name)) == is_cell] for is_cell in (True, False))
         sides = {(name[0], cell_of(name[1:])): colour for name, colour in colours.items()}
         if len(cells) != 1 or len(names) > 1 or len(sides) != 4:

@@ -21,7 +21,8 @@ class Grid(Kind):
         return next((comment.partition(f"{key}: ")[2] for comment in self.comments if re.match(rf"\|\s*{key}: ", comment)), "")
 
     def told_rows(self, key: str) -> list[list[str]]:
-        """Rows of marks that a comment tells, with or without blanks between; none where they are of different lengths."""
+        """Rows of marks that a comment tells, with or without blanks between; none where they are of different
+        lengths."""
         text = self.told(key)
         rows = [row.split() for row in text.split(" / ")] if " / " in text else [list(row) for row in text.split()]
         return rows if rows and all(len(row) == len(rows[0]) for row in rows) and max(len(rows), len(rows[0])) < LARGEST else []

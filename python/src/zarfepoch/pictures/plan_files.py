@@ -1,5 +1,5 @@
-"""Plans of a timetable as files: as CSV that people read, and a folder with a picture and such a table for each class, teacher or room; and what command
-lines have for them."""
+"""Plans of a timetable as files: as CSV that people read, and a folder with a picture and such a table for each class,
+teacher or room; and what command lines have for them."""
 from __future__ import annotations
 
 import os
@@ -18,7 +18,8 @@ LONGEST = 200
 
 
 def timetable_of(picture: Kind, option: str) -> Timetable:
-    """A picture that is a timetable with a plan; ends the script where it is none, and so can't be written as an option of the command wants."""
+    """A picture that is a timetable with a plan; ends the script where it is none, and so can't be written as an option
+    of the command wants."""
     if not isinstance(picture, Timetable):
         return stop(f"{option} is for timetables, and this is none")
     if picture.is_none:
@@ -27,13 +28,15 @@ def timetable_of(picture: Kind, option: str) -> Timetable:
 
 
 def grid_of(picture: Kind) -> str:
-    """The plans that are wanted, or of all, as CSV with periods down and days across; ends the script where there are none."""
+    """The plans that are wanted, or of all, as CSV with periods down and days across; ends the script where there are
+    none."""
     timetable = timetable_of(picture, "--grid")
     return timetable.grid(timetable.wanted() or timetable.called("all"))
 
 
 def file_names(names: Iterable[str]) -> list[str]:
-    """For each name that of a file, without what a system can't have in one; none is another one's in other capitals."""
+    """For each name that of a file, without what a system can't have in one; none is another one's in other
+    capitals."""
     found: dict[str, str] = {}
     for name in names:
         # (no system has these, and a name that begins with a dot isn't seen)
@@ -45,7 +48,8 @@ def file_names(names: Iterable[str]) -> list[str]:
 
 
 def write_each(folder: str, picture: Kind, title: str) -> None:
-    """Writes a picture and a table for each of whom a plan is wanted, or for all; a lesson has one colour in all of them."""
+    """Writes a picture and a table for each of whom a plan is wanted, or for all; a lesson has one colour in all of
+    them."""
     timetable = timetable_of(picture, "--out-dir")
     wanted = timetable.wanted() or timetable.called("all")
     plans = [timetable.plan(who) for who in wanted]

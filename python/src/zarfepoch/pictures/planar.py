@@ -1,8 +1,8 @@
 """Places of a graph's vertices in the plane, so that straight edges don't cross; none where the graph isn't planar.
 
-An embedding is built face by face (Demoucron, Malgrange and Pertuiset): from a cycle on, a path of what is left is laid into a face that
-has both its ends. Then each vertex inside is put into the middle of its neighbours (Tutte), with one more vertex in each face, and those that
-are crowded are moved a little.
+An embedding is built face by face (Demoucron, Malgrange and Pertuiset): from a cycle on, a path of what is left is laid
+into a face that has both its ends. Then each vertex inside is put into the middle of its neighbours (Tutte), with one
+more vertex in each face, and those that are crowded are moved a little.
 """
 from __future__ import annotations
 
@@ -125,7 +125,8 @@ def divided(face: list[Vertex], path: list[Vertex]) -> list[list[Vertex]]:
 
 
 def laid_out(vertices: list[Vertex], edges: Edges, faces: list[list[Vertex]], outer: list[Vertex]) -> Places:
-    """A place for each vertex, those of the outer face on a circle, and each other one in the middle of its neighbours."""
+    """A place for each vertex, those of the outer face on a circle, and each other one in the middle of its
+    neighbours."""
     inner = [face for face in faces if face is not outer]
     # (dictionaries in place of sets, since these have no order, and sums depend on it)
     near: dict[Vertex, dict[Vertex, None]] = {vertex: {} for vertex in vertices}
@@ -171,7 +172,8 @@ def room_of(vertex: Vertex, at: Places, edges: Edges) -> float:
 
 
 def spread(at: Places, edges: Edges) -> Places:
-    """Moves vertices as long as they get more room. No step is longer than a vertex's room, so that no edge comes to cross another."""
+    """Moves vertices as long as they get more room. No step is longer than a vertex's room, so that no edge comes to
+    cross another."""
     for turn in range(STEPS):
         for vertex in at:
             here, room = at[vertex], room_of(vertex, at, edges)
@@ -192,7 +194,8 @@ def in_order(vertices: list[Vertex], edge: tuple[Vertex, Vertex]) -> tuple[Verte
 
 
 def places(names: Sequence[Vertex], pairs: Iterable[tuple[Vertex, Vertex]]) -> tuple[Places, float] | None:
-    """A place for each vertex within a circle of radius one, and the clearance; None where straight edges would cross."""
+    """A place for each vertex within a circle of radius one, and the clearance; None where straight edges would
+    cross."""
     vertices = list(names)
     different = {in_order(vertices, (one, other)) for one, other in pairs if one != other}
     edges = sorted(different, key=lambda edge: [vertices.index(vertex) for vertex in edge])

@@ -1,5 +1,5 @@
-"""A picture of a reason for `none`: a board whose cells have the colours of what they weigh, need or have room for, and below it the
-other items that count; or these alone, where the items are no cells of a board."""
+"""A picture of a reason for `none`: a board whose cells have the colours of what they weigh, need or have room for, and
+below it the other items that count; or these alone, where the items are no cells of a board."""
 from __future__ import annotations
 
 import re
@@ -31,7 +31,8 @@ class Group:
 
 
 def kinds_of(reason: Reason) -> list[tuple[str, str, str, Amounts]]:
-    """Of each kind of number what one item of it does, what several do, how the number is written, and the numbers by names."""
+    """Of each kind of number what one item of it does, what several do, how the number is written, and the numbers by
+    names."""
     if reason.modulus:
         return [("weighs", "weigh", "{:+d}", reason.signed())]
     return [("needs", "need", "{}", reason.needs), ("has room for", "have room for", "{}", reason.rooms)]
@@ -93,7 +94,8 @@ def draw_groups(paper: Paper, cells: dict[bytes, Cell], groups: list[Group]) -> 
 
 
 def reason_svg(problem: Problem, reason: Reason) -> str:
-    """The picture of a reason as SVG. Of several, one for each option of an item, it is that of the first: its line below says how many there are."""
+    """The picture of a reason as SVG. Of several, one for each option of an item, it is that of the first: its line
+    below says how many there are."""
     cells, groups = board_of(problem), groups_of(next(iter(reason.cases.values()), reason))
     if not any(name in cells for group in groups for name in group.names):
         cells = {}

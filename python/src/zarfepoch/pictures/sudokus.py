@@ -29,8 +29,8 @@ class Regions(Board):
 
 
 class Sudoku(Kind):
-    """A sudoku by what rows, columns, regions and perhaps diagonals and cages still lack; given digits stand in a comment, or are those that
-    rows, columns and boxes don't lack."""
+    """A sudoku by what rows, columns, regions and perhaps diagonals and cages still lack; given digits stand in a
+    comment, or are those that rows, columns and boxes don't lack."""
 
     def is_known(self) -> bool:
         digits = [option for option in self.options if option[0][0] == "p"]
@@ -92,7 +92,8 @@ class Sudoku(Kind):
 
     @functools.cached_property
     def rows_told(self) -> list[list[str]] | None:
-        """Rows of given marks by the comment, if it tells as many rows as columns and its empty cells are those of the problem."""
+        """Rows of given marks by the comment, if it tells as many rows as columns and its empty cells are those of the
+        problem."""
         text = self.told("given")
         rows = [row.split() for row in text.split(" / ")] if " / " in text else [list(row) for row in text.split()]
         open_cells = {self.cell(option) for option in self.placing}
@@ -107,7 +108,8 @@ class Sudoku(Kind):
 
     @functools.cached_property
     def size(self) -> int:
-        """The number of rows: as the comment tells, or nine where the boxes are those of nine, or else as great as any name."""
+        """The number of rows: as the comment tells, or nine where the boxes are those of nine, or else as great as any
+        name."""
         if self.rows_told:
             return len(self.rows_told)
         numbers = [int(name[1:1 + self.width]) + 1 for option in self.placing for name in option[1:4]]
@@ -265,7 +267,8 @@ def draw_cage(paper: Paper, cells: set[Cell], total: int | None, fill: str) -> N
 
 
 def end_of_side(cells: set[Cell], cell: Cell, outwards: Cell, sign: int) -> tuple[float, float]:
-    """Where the line along a side of a cell ends, a little inside of the cage: at the cell's corner, or at the next cell's line."""
+    """Where the line along a side of a cell ends, a little inside of the cage: at the cell's corner, or at the next
+    cell's line."""
     along = (sign * abs(outwards[1]), sign * abs(outwards[0]))
     beside = (cell[0] + along[0], cell[1] + along[1])
     behind = (beside[0] + outwards[0], beside[1] + outwards[1])

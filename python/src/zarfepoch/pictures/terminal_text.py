@@ -5,8 +5,8 @@ import unicodedata
 
 
 def columns(text: str) -> int:
-    """How many columns of a terminal a text takes: a Chinese, Japanese, Korean or full-width letter and an emoji two each, and a mark that is
-    written over or under the letter before it none."""
+    """How many columns of a terminal a text takes: a Chinese, Japanese, Korean or full-width letter and an emoji two
+    each, and a mark that is written over or under the letter before it none."""
     letters = unicodedata.normalize("NFC", text)
     return sum(0 if unicodedata.category(letter) in ("Mn", "Me") else 2 if unicodedata.east_asian_width(letter) in "WF" else 1 for letter in letters)
 

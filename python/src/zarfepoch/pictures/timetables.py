@@ -1,4 +1,5 @@
-"""Pictures of timetables: a plan of the week for each class, teacher or room, with days as columns, or one table of who is busy when."""
+"""Pictures of timetables: a plan of the week for each class, teacher or room, with days as columns, or one table of who
+is busy when."""
 from __future__ import annotations
 
 import csv
@@ -61,8 +62,8 @@ class Timetable(Kind):
         return bool(pairs) and len(pairs) == len(who) * len(periods)
 
     def parted(self, option: Names) -> list[tuple[str, Names]]:
-        """The lessons of an option, mostly one, each with who is busy with it when. Comments tell which follow one another, and of these the
-        lengths that aren't one period."""
+        """The lessons of an option, mostly one, each with who is busy with it when. Comments tell which follow one
+        another, and of these the lengths that aren't one period."""
         count = 1 + len(list(itertools.takewhile(self.is_follower, option[1:])))
         names = option[count:]
         periods = list(dict.fromkeys(name.rsplit("-", 1)[-1] for name in names))
@@ -239,7 +240,8 @@ class Timetable(Kind):
         return written.getvalue()
 
     def grid(self, wanted: Sequence[str]) -> str:
-        """Plans as CSV that people read: of each of these a block with a row for each number of a period and a column for each day."""
+        """Plans as CSV that people read: of each of these a block with a row for each number of a period and a column
+        for each day."""
         blocks = ([[" ".join(filter(None, cell)) for cell in row] for row in self.plan(who)] for who in wanted)
         return "\n".join(map(self.as_csv, blocks))
 
@@ -296,7 +298,8 @@ def draw_plans(paper: Paper, plans: list[Rows], fills: dict[str, str]) -> None:
 
 
 class Plan:
-    """The plan of somebody's week on a sheet, under their name: a row for each number of a period, a column for each day."""
+    """The plan of somebody's week on a sheet, under their name: a row for each number of a period, a column for each
+    day."""
 
     SIZE, SMALL, LINE = 13, 11, 16
 

@@ -9,7 +9,8 @@ from ..boards.cells import Cell
 
 
 class Argument:
-    """An argument or an option, by its name and what argparse is told of it. `is_text` says that it gives the puzzle itself, most often in a file."""
+    """An argument or an option, by its name and what argparse is told of it. `is_text` says that it gives the puzzle
+    itself, most often in a file."""
 
     def __init__(self, name: str, is_text: bool = False, **told: Any) -> None:
         self.name, self.is_text, self.told = name, is_text, told

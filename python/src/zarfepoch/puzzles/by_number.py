@@ -19,7 +19,8 @@ def queens(n: int) -> Puzzle:
 
 
 def langford(n: int) -> Lists:
-    """Two of each number from 1 to n in a row, those of d with d places between them: the numbers, their places, and the pairs."""
+    """Two of each number from 1 to n in a row, those of d with d places between them: the numbers, their places, and
+    the pairs."""
     pairs = [[str(d), f"s{k}", f"s{k + d + 1}"] for d in range(1, n + 1) for k in range(1, 2 * n - d)]
     return [str(d) for d in range(1, n + 1)] + [f"s{k}" for k in range(1, 2 * n + 1)], [], pairs
 

@@ -1,5 +1,5 @@
-"""Squares and cubes with coloured sides as exact covers, and how they are read: squares that meet in one colour, and cubes in a row that show each
-colour once."""
+"""Squares and cubes with coloured sides as exact covers, and how they are read: squares that meet in one colour, and
+cubes in a row that show each colour once."""
 from __future__ import annotations
 
 import re
@@ -33,8 +33,8 @@ def looks_outwards(cells: set[Cell], cell: Cell) -> tuple[bool, ...]:
 
 
 def squares(cells: set[Cell], pieces: Pieces, border: Optional[str] = None) -> Puzzle:
-    """Squares with coloured sides, edge to edge; with a border, all sides that look outwards have this colour, and no others where
-    the squares have no more of it."""
+    """Squares with coloured sides, edge to edge; with a border, all sides that look outwards have this colour, and no
+    others where the squares have no more of it."""
     names, grid = names_of(cells), names_of({(r + a, c + b) for r, c in cells for a in (0, 1) for b in (0, 1)})
     outwards = {cell: looks_outwards(cells, cell) for cell in cells}
     of_border = sum(colour == border for colours in pieces.values() for colour in colours)

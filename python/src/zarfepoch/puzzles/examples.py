@@ -1,4 +1,5 @@
-"""The larger example files of a clone: what their problems are made of. Those of FROM_TEXTS are made as the command line makes any."""
+"""The larger example files of a clone: what their problems are made of. Those of FROM_TEXTS are made as the command
+line makes any."""
 from __future__ import annotations
 
 from collections.abc import Iterator

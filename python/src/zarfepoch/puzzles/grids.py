@@ -164,7 +164,8 @@ def touched_by(stars: Iterable[Cell], size: int) -> set[Cell]:
 
 
 class House:
-    """A row, a column or a region with the ways to put so many stars into it; of each way its stars and the cells that these touch, as bits."""
+    """A row, a column or a region with the ways to put so many stars into it; of each way its stars and the cells that
+    these touch, as bits."""
 
     def __init__(self, name: str, cells: list[Cell], stars: int, size: int) -> None:
         self.name, self.cells, self.bits = name, cells, as_bits(cells, size)
@@ -187,7 +188,8 @@ class House:
 
 
 def options_of(houses: list[House], names: dict[Cell, str], size: int) -> list[list[str]]:
-    """The options of all houses. Where they are more than the program reads, ways that fit no way of another house are left out."""
+    """The options of all houses. Where they are more than the program reads, ways that fit no way of another house are
+    left out."""
     options = [option for house in houses for option in house.options(names, size)]
     if len(options) <= MAX_OPTIONS and sum(map(len, options)) <= MAX_OCCURRENCES:
         return options

@@ -1,4 +1,5 @@
-"""The kinds of problems that can be made: one table, from which the command lines, their help, and the problems themselves come.
+"""The kinds of problems that can be made: one table, from which the command lines, their help, and the problems
+themselves come.
 
 A new kind is a new record of KINDS, and a function that makes its problem, in the module of its theme.
 """
@@ -35,9 +36,9 @@ from .words import read_crossword, read_words, word_squares
 class Kind:
     """A kind of problem.
 
-    In the help `example` is what may follow its name, and `about` says what that is; `details` come last. `what` says in a problem's first comment
-    what this is, where that depends on the command line by a function of it. `make` makes the problem, or several of a timetable that is too large
-    for one.
+    In the help `example` is what may follow its name, and `about` says what that is; `details` come last. `what` says
+    in a problem's first comment what this is, where that depends on the command line by a function of it. `make` makes
+    the problem, or several of a timetable that is too large for one.
     """
     name: str
     example: str
@@ -216,7 +217,8 @@ def kinds_help() -> str:
 
 
 def told_word(word: str) -> str:
-    """A word of the command line as a comment has it: a sudoku without its blanks, others in quotes if they have any."""
+    """A word of the command line as a comment has it: a sudoku without its blanks, others in quotes if they have
+    any."""
     parts = word.split()
     return "".join(parts) if is_typed(word) else f"'{' '.join(parts)}'" if len(parts) > 1 else "".join(parts)
 
@@ -243,7 +245,8 @@ def kinds_of(parser: argparse.ArgumentParser) -> list[argparse.ArgumentParser]:
 
 
 def problems_of(given: Namespace, given_words: list[str]) -> list[Puzzle]:
-    """The problems that these words of a command line ask for, mostly one; their first comment tells how they were made."""
+    """The problems that these words of a command line ask for, mostly one; their first comment tells how they were
+    made."""
     kind = BY_WORD[given.kind]
     try:
         found = kind.make(given)

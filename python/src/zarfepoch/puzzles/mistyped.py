@@ -1,6 +1,8 @@
-"""Where a puzzle has no solution: which of what it gives may be mistyped. Without that, or with something else in its place, it has one.
+"""Where a puzzle has no solution: which of what it gives may be mistyped. Without that, or with something else in its
+place, it has one.
 
-A puzzle that gives much has often no solution but one, so a change after which there is exactly one comes before those after which there are several.
+A puzzle that gives much has often no solution but one, so a change after which there is exactly one comes before those
+after which there are several.
 """
 from __future__ import annotations
 
@@ -18,14 +20,16 @@ from ..texts.limits import Refused
 from ..texts.puzzles import Change, PlainlyNone, Puzzle
 from .words import NoSolution
 
-# so many seconds all changes together may take where no time is told, and each question about one, or a tenth of the time if that is more
+# so many seconds all changes together may take where no time is told, and each question about one, or a tenth of the
+# time if that is more
 SECONDS, QUESTION = 5.0, 1.0
 # so many changes are told
 MOST = 6
 
 
 def changed(change: Change) -> Optional[Puzzle]:
-    """The puzzle after a change; None where it can't be made, and `PlainlyNone` or `NoSolution` where it plainly has no solution."""
+    """The puzzle after a change; None where it can't be made, and `PlainlyNone` or `NoSolution` where it plainly has no
+    solution."""
     try:
         with contextlib.redirect_stderr(io.StringIO()):
             return change.puzzle()
@@ -36,7 +40,8 @@ def changed(change: Change) -> Optional[Puzzle]:
 
 
 def count_of(program: str, change: Change, seconds: float) -> Optional[int]:
-    """How many solutions there are after a change: none, one, or 2 for several; None where that isn't known. Each question has so many seconds."""
+    """How many solutions there are after a change: none, one, or 2 for several; None where that isn't known. Each
+    question has so many seconds."""
     try:
         puzzle = changed(change)
     except (PlainlyNone, NoSolution):

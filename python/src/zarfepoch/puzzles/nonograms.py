@@ -18,7 +18,8 @@ Blocks = Optional[list[int]]
 
 
 class Line:
-    """A row or column of a nonogram: the lengths of its blocks, and of each cell whether it is black, None where that isn't settled."""
+    """A row or column of a nonogram: the lengths of its blocks, and of each cell whether it is black, None where that
+    isn't settled."""
 
     def __init__(self, blocks: Blocks, width: int) -> None:
         self.is_told, self.blocks = blocks is not None, blocks or []
@@ -94,8 +95,9 @@ def way_count(line: Line) -> int:
 
 
 def nonogram(rows: Sequence[Blocks], columns: Sequence[Blocks]) -> Lists:
-    """Each row and each column whose blocks are told is filled in one of its ways; a cell's colour is black or white, and both its lines agree on it.
-    Where these ways are too many, those are left out that a cell contradicts which one line alone settles."""
+    """Each row and each column whose blocks are told is filled in one of its ways; a cell's colour is black or white,
+    and both its lines agree on it. Where these ways are too many, those are left out that a cell contradicts which one
+    line alone settles."""
     names = cell_names(len(rows), len(columns))
     across, down = [Line(blocks, len(columns)) for blocks in rows], [Line(blocks, len(rows)) for blocks in columns]
     ways = [(way_count(line), len(line.known) + 1) for line in across + down if line.is_told]

@@ -236,8 +236,8 @@ LESS, MORE, UP, DOWN = "<", ">", "^\u2227\u02c4\u039b", "vV\u2228\u02c5"
 
 
 def read_futoshiki(path: str) -> tuple[list[list[int]], list[tuple[Cell, Cell]], list[int]]:
-    """The given digits, the pairs of cells of which the first has the smaller digit, and the numbers of the lines of rows. Signs below a row belong to
-    the cell above them."""
+    """The given digits, the pairs of cells of which the first has the smaller digit, and the numbers of the lines of
+    rows. Signs below a row belong to the cell above them."""
     rows: list[list[int]] = []
     pairs: list[tuple[Cell, Cell]] = []
     lines: list[int] = []
@@ -316,7 +316,8 @@ def signed_square(path: str, rows: list[list[int]], pairs: list[tuple[Cell, Cell
 
 
 def longest(size: int, pairs: list[tuple[Cell, Cell]], way: int) -> dict[Cell, list[Cell]]:
-    """For each cell a longest chain of cells that are less than it, each less than the next one (way 0), or more (way 1); as far as the size goes."""
+    """For each cell a longest chain of cells that are less than it, each less than the next one (way 0), or more (way
+    1); as far as the size goes."""
     chains: dict[Cell, list[Cell]] = {(r, c): [] for r in range(size) for c in range(size)}
     for _ in range(size):
         for pair in pairs:
@@ -428,7 +429,8 @@ def lines_of(size: int) -> list[str]:
 
 
 def binairo(path: str, alike: bool = False) -> Puzzle:
-    """Noughts and ones: as many of each in each row and column, no three alike side by side, and unless `alike` is set no two rows or columns alike."""
+    """Noughts and ones: as many of each in each row and column, no three alike side by side, and unless `alike` is set
+    no two rows or columns alike."""
     rows = grid_of(path, only_block(path))
     size = len(rows)
     if len(rows[0][1]) != size or size % 2 or not 2 <= size <= 14:

@@ -1,8 +1,8 @@
 """Boards of any shape, flat or in layers, that pieces fill: any pieces, each in so many copies.
 
-Copies of a piece are alike, and a search that tells them apart finds each way to lay them many times. So a piece has no item of its own
-where the number of cells settles how often it is used; else its copies lie in order: of two copies the one that comes first begins no later
-on the board, which items as `L.1<3` see to.
+Copies of a piece are alike, and a search that tells them apart finds each way to lay them many times. So a piece has no
+item of its own where the number of cells settles how often it is used; else its copies lie in order: of two copies the
+one that comes first begins no later on the board, which items as `L.1<3` see to.
 """
 from __future__ import annotations
 
@@ -50,7 +50,8 @@ def is_rows(line: str) -> bool:
 
 
 def want_layers(path: str, block: list[tuple[int, str]]) -> None:
-    """Refuses rows of which one has more words than another: a blank parts layers, and a cell that isn't there is a dot."""
+    """Refuses rows of which one has more words than another: a blank parts layers, and a cell that isn't there is a
+    dot."""
     counts = [len(row.split()) for _, row in block]
     for (number, _), count in zip(block, counts):
         if count != counts[0]:
@@ -59,7 +60,8 @@ def want_layers(path: str, block: list[tuple[int, str]]) -> None:
 
 
 def read_board(text: str) -> set[Cell]:
-    """The cells of a board: a size as 5x12 or 3x3x3, or a file of x and dots; blocks of lines, or words side by side, are layers."""
+    """The cells of a board: a size as 5x12 or 3x3x3, or a file of x and dots; blocks of lines, or words side by side,
+    are layers."""
     found = re.fullmatch(r"(?:([1-9]\d?)x)?([1-9]\d{0,2})x([1-9]\d{0,2})", text)
     if found:
         deep, high, wide = (range(int(size or 1)) for size in found.groups())
@@ -106,7 +108,8 @@ def named_pieces(text: str) -> list[Piece]:
 
 
 def read_pieces(path: str) -> list[Piece]:
-    """Pieces from a file: each a line with its name and perhaps a number of copies, and rows of x and dots; an empty line parts them."""
+    """Pieces from a file: each a line with its name and perhaps a number of copies, and rows of x and dots; an empty
+    line parts them."""
     pieces: list[Piece] = []
     for block in blocks_of(path):
         number, line = block[0]
@@ -188,7 +191,8 @@ class Copies:
         self.parts, self.places = parts, places
 
     def order(self, k: int, place: int) -> list[str]:
-        """The items of a copy that begins at this place of the board: of two copies in the wrong order both name one."""
+        """The items of a copy that begins at this place of the board: of two copies in the wrong order both name
+        one."""
         part = place * self.parts // self.places
         before = [f"{self.names[k]}<{t}" for t in range(1, self.parts) if k + 1 < len(self.names) and part >= t]
         behind = [f"{self.names[k - 1]}<{t}" for t in range(1, self.parts) if k and part < t]

@@ -1,8 +1,10 @@
-"""Sudokus of many sizes as exact covers: with boxes or other regions, with diagonals, and with cages that have sums (killer).
+"""Sudokus of many sizes as exact covers: with boxes or other regions, with diagonals, and with cages that have sums
+(killer).
 
-The items are what is still lacking: `p12` a digit in row 1, column 2, `r13` the digit 3 in row 1, `c23` in column 2, `b43` in region 4, `x3`
-and `y3` on the two diagonals, `h03` in the first of the four windows of a hyper sudoku. From a size of ten on numbers have two digits. Of a cage `k5` is the choice of its digits, and `k5.3` is taken
-by a cell of the cage with a 3, or by the choice if the cage has no 3.
+The items are what is still lacking: `p12` a digit in row 1, column 2, `r13` the digit 3 in row 1, `c23` in column 2,
+`b43` in region 4, `x3` and `y3` on the two diagonals, `h03` in the first of the four windows of a hyper sudoku. From a
+size of ten on numbers have two digits. Of a cage `k5` is the choice of its digits, and `k5.3` is taken by a cell of the
+cage with a 3, or by the choice if the cage has no 3.
 """
 from __future__ import annotations
 
@@ -22,7 +24,8 @@ from ..files.fault_words import plural
 from ..texts.names import names_in
 from ..texts.puzzles import blocks_of, Change, no_cover, Puzzle, read_text, refuse, TYPED
 
-# the cells and the sum of a cage, which may be any; lines with their numbers; rows of marks, and the places of their lines
+# the cells and the sum of a cage, which may be any; lines with their numbers; rows of marks, and the places of their
+# lines
 Cage = tuple[list[Cell], Optional[int]]
 Block = list[tuple[int, str]]
 Square = tuple[list[list[str]], Optional[list[int]]]
@@ -89,7 +92,8 @@ class Sudoku:
         return options
 
     def puzzle(self) -> Puzzle:
-        """The items that are lacking, and the options that name none but these. In a sudoku with cages the given cells stay."""
+        """The items that are lacking, and the options that name none but these. In a sudoku with cages the given cells
+        stay."""
         keep = bool(self.cages)
         gone = set() if keep else {item for r, c in self.cells() if self.given[r][c] for item in self.option(r, c, self.given[r][c])}
         every = [self.option(r, c, digit) for r, c in self.cells() for digit in range(1, self.size + 1)
@@ -141,7 +145,8 @@ def bare_lines(text: str) -> list[tuple[int, str]]:
 
 
 def square_of(text: str) -> Square | None:
-    """Rows of marks of a square text, by words or by characters, and the places of their lines; None where it is none."""
+    """Rows of marks of a square text, by words or by characters, and the places of their lines; None where it is
+    none."""
     whole = [(place, line) for place, line in enumerate(text.splitlines()) if line.strip()]
     for lines in (bare_lines(text), whole):
         words = [line.split() for _, line in lines]
@@ -166,7 +171,8 @@ def blank_nine(text: str) -> Square | None:
 
 
 def symbols_of(marks: list[str], size: int) -> str | None:
-    """The digits as they are written: numbers, 1 to 9 and A on, or 0 to 9 and A on where 0 isn't an empty cell; None for numbers."""
+    """The digits as they are written: numbers, 1 to 9 and A on, or 0 to 9 and A on where 0 isn't an empty cell; None
+    for numbers."""
     if size < 10 or any(len(mark) > 1 for mark in marks):
         return None
     has_zero = "0" in marks and ("." in marks or "_" in marks) and MARKS[size - 1] not in "".join(marks).upper()
@@ -194,7 +200,8 @@ def refuse_sheet(path: str, text: str, numbers: Sequence[int]) -> None:
 
 
 def refuse_shape(path: str, text: str, numbers: Sequence[int]) -> NoReturn:
-    """Refuses a text that is no square, with the first line that is shorter or longer than most, or has what no cell is."""
+    """Refuses a text that is no square, with the first line that is shorter or longer than most, or has what no cell
+    is."""
     refuse_sheet(path, text, numbers)
     lines = bare_lines(text)
     for place, line in lines:
@@ -253,7 +260,8 @@ def untitled_square(text: str) -> Square | None:
 
 
 def digits_of(path: str, text: str, numbers: Sequence[int] | None = None) -> Digits:
-    """The given digits of a text, the symbols that stand for them, and the lines of its rows; `numbers` are those of its lines in the file."""
+    """The given digits of a text, the symbols that stand for them, and the lines of its rows; `numbers` are those of
+    its lines in the file."""
     numbers = numbers or range(1, len(text.splitlines()) + 1)
     square = untitled_square(text)
     if square is None:
@@ -335,8 +343,9 @@ def cells_by_letter(rows: list[str]) -> dict[str, list[Cell]]:
 
 
 def regions_of(path: str, block: Block, size: int) -> tuple[list[list[int]], str]:
-    """Regions by letters, each with as many cells as the sudoku has rows; numbered in the order of their first cells, which is that of the letters
-    behind them. Where most of them hang together, all have to: else a letter stands in a wrong place."""
+    """Regions by letters, each with as many cells as the sudoku has rows; numbered in the order of their first cells,
+    which is that of the letters behind them. Where most of them hang together, all have to: else a letter stands in a
+    wrong place."""
     rows = letters_of(path, block)
     if len(rows) != size:
         refuse(path, block[0][0], f"the regions have {len(rows)} rows and the digits {size}")

@@ -1,5 +1,5 @@
-"""Rectangles, perhaps without some cells, that pentominoes, tetrominoes or dominoes fill, as exact covers. `pieces.py` has boards of any shape and any
-pieces."""
+"""Rectangles, perhaps without some cells, that pentominoes, tetrominoes or dominoes fill, as exact covers. `pieces.py`
+has boards of any shape and any pieces."""
 from __future__ import annotations
 
 from collections.abc import Collection, Iterator, Sequence

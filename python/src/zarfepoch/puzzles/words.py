@@ -70,8 +70,8 @@ def read_words(path: str, ignore_case: bool) -> list[str]:
 # ---- squares of words
 
 def word_squares(words: list[str], marks: Sequence[str] = ("",), repeat: bool = False) -> Puzzle:
-    """Squares with a word in each row and in each column, all different unless `repeat` is set; a cell's colour is its letter. Behind
-    each mark go the names of one square."""
+    """Squares with a word in each row and in each column, all different unless `repeat` is set; a cell's colour is its
+    letter. Behind each mark go the names of one square."""
     n = len(words[0])
     slots: dict[str, list[str]] = {}
     names = cell_names(n, n)
@@ -117,8 +117,8 @@ def no_word(slot: str, run: list[Cell], grid: list[str], words: list[str]) -> No
 
 
 def crossword(grid: list[str], words: list[str], repeat: bool = False) -> Lists:
-    """A word of the list in each place; a cell's colour is its letter. No word comes twice, unless `repeat` allows it: a word that fits into
-    two places has an item for this."""
+    """A word of the list in each place; a cell's colour is its letter. No word comes twice, unless `repeat` allows it:
+    a word that fits into two places has an item for this."""
     slots, names = slots_of(grid), cell_names(len(grid), len(grid[0]))
     if not slots:
         raise Refused("the grid has no two open cells side by side")

@@ -1,9 +1,9 @@
 """Reasons for `none` as `solve_cli why` writes them: read, added up again, and told in words.
 
-A reason is either weights of primary items modulo a number, or what primary items need and the room that items have for it. Room that is just
-enough may stand before it: then each cover uses the items that have some, and they count as primary behind it. Cliques may stand before that, options
-each two of which clash: each is an item, too, and a cover has one option of it at most. Or it is a reason for each option of an item, of what is left
-beside that one.
+A reason is either weights of primary items modulo a number, or what primary items need and the room that items have for
+it. Room that is just enough may stand before it: then each cover uses the items that have some, and they count as
+primary behind it. Cliques may stand before that, options each two of which clash: each is an item, too, and a cover has
+one option of it at most. Or it is a reason for each option of an item, of what is left beside that one.
 `docs/FORMAT.md` has the text; `holds` is all that has to be believed.
 """
 from __future__ import annotations
@@ -34,8 +34,9 @@ HEAD = re.compile(rb"weights modulo [0-9]+|too little room|just enough room")
 
 
 class Reason:
-    """The weights, needs and rooms of a reason, by names, and its modulus, 0 where it has none; those of room that is just enough before it; and the
-    numbers of the options of cliques, by their names. Or an item, and a reason for each of its options, by their numbers."""
+    """The weights, needs and rooms of a reason, by names, and its modulus, 0 where it has none; those of room that is
+    just enough before it; and the numbers of the options of cliques, by their names. Or an item, and a reason for each
+    of its options, by their numbers."""
 
     def __init__(self, text: bytes) -> None:
         lines = text.removeprefix(b"none\n").rstrip(b"\n").split(b"\n")
@@ -54,7 +55,8 @@ class Reason:
             self.read(lines)
 
     def read(self, lines: list[bytes]) -> None:
-        """Takes up the lines of one kind of numbers, and what may stand before them; a ValueError where they are none."""
+        """Takes up the lines of one kind of numbers, and what may stand before them; a ValueError where they are
+        none."""
         if lines[0] == CLIQUES:
             own = list(itertools.takewhile(lambda line: line.startswith(b"clique "), lines[1:]))
             self.cliques = read_cliques(own)
@@ -141,7 +143,8 @@ def read_cliques(lines: list[bytes]) -> dict[bytes, list[int]]:
 
 
 def read_cases(lines: list[bytes]) -> dict[int, Reason]:
-    """The reasons of cases by the numbers of their options; a ValueError where lines are none of a case, or a number comes twice."""
+    """The reasons of cases by the numbers of their options; a ValueError where lines are none of a case, or a number
+    comes twice."""
     heads = [place for place, line in enumerate(lines) if CASE.fullmatch(line)]
     numbers = [int(lines[place].split()[1]) for place in heads]
     if (heads[:1] != [0] and lines) or len(set(numbers)) < len(numbers):
@@ -273,8 +276,8 @@ def one_group(modulus: int, named: Named, group: tuple[int, list[bytes]]) -> Ite
 # ---- from the program
 
 def found_reason(program: str, text: bytes, seconds: Optional[float] = None) -> Optional[Reason]:
-    """The reason that the program gives for the bytes of a problem file, or None where it finds none; an OSError where it can't be run, and `TimeIsUp`
-    where it takes more than so many seconds, if they are told."""
+    """The reason that the program gives for the bytes of a problem file, or None where it finds none; an OSError where
+    it can't be run, and `TimeIsUp` where it takes more than so many seconds, if they are told."""
     try:
         ran = subprocess.run([program, "why", "-"], input=text, capture_output=True, timeout=None if seconds is None else max(0.0, seconds))
     except subprocess.TimeoutExpired:

@@ -1,9 +1,11 @@
-"""Reasons by counting for problems in which many items are alike, as pairs of people who may meet once: all of a kind need as much, or have as much room.
+"""Reasons by counting for problems in which many items are alike, as pairs of people who may meet once: all of a kind
+need as much, or have as much room.
 
-Kinds of items are told apart by the kinds of options that name them, and these by the kinds of their items, as long as that parts any. If any needs and
-rooms show that there is too little room, then some do that are equal within a kind: the mean of all that could stand for one another. So a linear
-program with a number for each kind finds them; it is solved in fractions, and what it finds is added up again before anybody hears of it. That may take
-long, so it ends where a time is over.
+Kinds of items are told apart by the kinds of options that name them, and these by the kinds of their items, as long as
+that parts any. If any needs and rooms show that there is too little room, then some do that are equal within a kind:
+the mean of all that could stand for one another. So a linear program with a number for each kind finds them; it is
+solved in fractions, and what it finds is added up again before anybody hears of it. That may take long, so it ends
+where a time is over.
 """
 from __future__ import annotations
 
@@ -67,7 +69,8 @@ def exchanged(table: list[Row], goal: Row, row: int, column: int) -> None:
 
 
 def greatest(gains: Row, rows: list[Row], bounds: Row, until: Optional[float]) -> Row:
-    """Numbers from 0 on of which the rows make no more than the bounds, which aren't less than 0, and the gains as much as they can (simplex)."""
+    """Numbers from 0 on of which the rows make no more than the bounds, which aren't less than 0, and the gains as much
+    as they can (simplex)."""
     count, wide = len(rows), len(gains)
     table = [[*row, *(Fraction(place == k) for k in range(count)), bound] for place, (row, bound) in enumerate(zip(rows, bounds))]
     goal = [*gains, *[Fraction(0)] * (count + 1)]
@@ -83,7 +86,8 @@ def greatest(gains: Row, rows: list[Row], bounds: Row, until: Optional[float]) -
 
 
 def weights_of(sizes: list[int], signs: list[tuple[int, ...]], rows: list[Counter[int]], until: Optional[float]) -> list[int]:
-    """For each kind what one of it needs, or less than 0 for the room that it has; all 0 where no numbers show anything. `signs` has what a kind may."""
+    """For each kind what one of it needs, or less than 0 for the room that it has; all 0 where no numbers show
+    anything. `signs` has what a kind may."""
     columns = [(kind, sign) for kind, own in enumerate(signs) for sign in own]
     gains = [Fraction(sign * sizes[kind]) for kind, sign in columns]
     limits = [[Fraction(sign * row[kind]) for kind, sign in columns] for row in rows]
@@ -97,8 +101,8 @@ def weights_of(sizes: list[int], signs: list[tuple[int, ...]], rows: list[Counte
 
 
 def even_room(problem: Problem, until: Optional[float] = None) -> Optional[Reason]:
-    """A reason for `none` in which all items of a kind have equal numbers; None where there is none, or where there are too many kinds. `TimeIsUp` where
-    the clock is beyond `until` before that is known."""
+    """A reason for `none` in which all items of a kind have equal numbers; None where there is none, or where there are
+    too many kinds. `TimeIsUp` where the clock is beyond `until` before that is known."""
     places = {name: place for place, name in enumerate(problem.names())}
     options = [[places[name] for name in option.names] for option in problem.options]
     coloured = {places[name] for option in problem.options for name, colour in zip(option.names, option.colours) if colour is not None}
@@ -120,8 +124,9 @@ def even_room(problem: Problem, until: Optional[float] = None) -> Optional[Reaso
 
 
 def any_reason(program: str, text: bytes, problem: Problem, seconds: Optional[float] = None, counting: float = SECONDS) -> Optional[Reason]:
-    """A reason for `none` of a problem file, by the program, or else by counting kinds of items; an OSError where the program can't be run. None where
-    there is none in so many seconds, if they are told, of which `counting` takes so many at most."""
+    """A reason for `none` of a problem file, by the program, or else by counting kinds of items; an OSError where the
+    program can't be run. None where there is none in so many seconds, if they are told, of which `counting` takes so
+    many at most."""
     until = None if seconds is None else time.monotonic() + seconds
     try:
         found = found_reason(program, text, seconds)

@@ -1,9 +1,11 @@
-"""All exact covers of a problem, each once: a plain search from one end of the search tree, and the program from the other.
+"""All exact covers of a problem, each once: a plain search from one end of the search tree, and the program from the
+other.
 
-The open prefixes of the tree wait in its order. The plain search takes one end of them: of a prefix it puts the children in its place, and each cover
-that it meets is told. Where it has met none for a while, the program is asked meanwhile about the prefix at the other end. If there is no cover below
-that, it goes; if there is one, this is told at once, and passed over where the search comes to it. So the end is known when no prefix is left, and
-neither a hard part nor many covers keep the rest from being told.
+The open prefixes of the tree wait in its order. The plain search takes one end of them: of a prefix it puts the
+children in its place, and each cover that it meets is told. Where it has met none for a while, the program is asked
+meanwhile about the prefix at the other end. If there is no cover below that, it goes; if there is one, this is told at
+once, and passed over where the search comes to it. So the end is known when no prefix is left, and neither a hard part
+nor many covers keep the rest from being told.
 """
 from __future__ import annotations
 
@@ -104,7 +106,8 @@ class Covers:
         return self.met(frozenset(prefix.options))
 
     def answered(self) -> Optional[Cover]:
-        """A cover that the program has found, if it answers now with one that wasn't told yet. Where it isn't asked, it is from now on."""
+        """A cover that the program has found, if it answers now with one that wasn't told yet. Where it isn't asked, it
+        is from now on."""
         if self.asked is None:
             return self.ask_first() if time.monotonic() - self.searched_since >= self.patience else None
         prefix, question = self.asked
@@ -119,8 +122,8 @@ class Covers:
         return None
 
     def ask_first(self) -> Optional[Cover]:
-        """Asks about the first prefix, or about children of it where it is known to have a cover below it. A cover, if the first prefix is one that
-        wasn't told yet."""
+        """Asks about the first prefix, or about children of it where it is known to have a cover below it. A cover, if
+        the first prefix is one that wasn't told yet."""
         while self.waiting:
             first = self.waiting[0]
             if first.item is not None and not any(cover.issuperset(first.options) for cover in self.ahead):
@@ -133,7 +136,8 @@ class Covers:
         return None
 
     def leave_out(self, prefix: Prefix) -> None:
-        """Leaves a prefix out that has no cover below it, and what is left of its children: they are the first that wait."""
+        """Leaves a prefix out that has no cover below it, and what is left of its children: they are the first that
+        wait."""
         depth = len(prefix.options)
         while self.waiting and self.waiting[0].options[:depth] == prefix.options:
             self.waiting.popleft()

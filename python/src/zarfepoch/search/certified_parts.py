@@ -1,4 +1,5 @@
-"""The certificates of a search's parts: each checked against the part's file, and all joined to one of the whole, which is checked again."""
+"""The certificates of a search's parts: each checked against the part's file, and all joined to one of the whole, which
+is checked again."""
 from __future__ import annotations
 
 import contextlib
@@ -52,8 +53,8 @@ def body_of(path: str) -> Iterator[bytes]:
 
 
 def write_tested(path: str, write: Callable[[BinaryIO], None], test: Callable[[str], None]) -> None:
-    """Writes a file whole or not at all, once what was written under another name has passed a test; what is no plain file, as a device or a pipe, gets
-    a copy."""
+    """Writes a file whole or not at all, once what was written under another name has passed a test; what is no plain
+    file, as a device or a pipe, gets a copy."""
     real = os.path.realpath(path)
     is_plain = os.path.isfile(real) or not os.path.exists(real)
     handle, part = tempfile.mkstemp(prefix=".part-", dir=os.path.dirname(real) if is_plain else None)

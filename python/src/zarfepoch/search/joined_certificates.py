@@ -1,8 +1,10 @@
-"""Certificates of a search's parts, joined to one of the whole, as docs/FORMAT.md describes them. For the script that joins.
+"""Certificates of a search's parts, joined to one of the whole, as docs/FORMAT.md describes them. For the script that
+joins.
 
-By cases, the lines of the whole choose the branch item of each prefix, and the lines of a part's certificate stand where its prefix is the case. By
-clauses, each clause of a part holds only below its prefix, so it gets a literal for each option of it, and what a prefix that is no part rests on is the
-clauses of its children. Either way items, options, kept cases, reasons and clauses get their numbers in the whole.
+By cases, the lines of the whole choose the branch item of each prefix, and the lines of a part's certificate stand
+where its prefix is the case. By clauses, each clause of a part holds only below its prefix, so it gets a literal for
+each option of it, and what a prefix that is no part rests on is the clauses of its children. Either way items, options,
+kept cases, reasons and clauses get their numbers in the whole.
 """
 from __future__ import annotations
 
@@ -18,7 +20,8 @@ class PartText(NamedTuple):
 
 
 class Joiner:
-    """What both kinds have in common: the head, the tree down to the parts, and the numbers in the whole of a part's items."""
+    """What both kinds have in common: the head, the tree down to the parts, and the numbers in the whole of a part's
+    items."""
 
     kind = b""
 
@@ -136,7 +139,8 @@ class ClauseJoiner(Joiner):
         yield from (b"d %d" % number for number in barren.values() if prefix.options)
 
     def firsts(self, prefix: Prefix, items: list[int]) -> Iterator[bytes]:
-        """The lines of the clauses that a part has from the start: of each primary item that is left, that one of its live options is chosen."""
+        """The lines of the clauses that a part has from the start: of each primary item that is left, that one of its
+        live options is chosen."""
         for item in items:
             naming = self.naming(item)
             live = [option for option in naming if prefix.live >> option & 1]

@@ -1,4 +1,5 @@
-"""The problem of all other covers than some: each lacks some option of each of these, and items and options more see to that.
+"""The problem of all other covers than some: each lacks some option of each of these, and items and options more see to
+that.
 
 `zarfepoch-another` writes it, and says in its help how; whether a solution is the only one is asked by it.
 """
@@ -47,7 +48,8 @@ def beyond(lines: list[bytes]) -> Optional[str]:
 
 
 def is_settled(tree: Tree, places: list[int]) -> bool:
-    """Whether so many options of a cover leave no choice: always some item has one option left, until all are covered."""
+    """Whether so many options of a cover leave no choice: always some item has one option left, until all are
+    covered."""
     live, uncovered = (1 << len(tree.problem.options)) - 1, set(tree.problem.primary_names())
     chosen = list(places)
     while chosen:
@@ -60,8 +62,8 @@ def is_settled(tree: Tree, places: list[int]) -> bool:
 
 
 def enough(problem: Problem, chosen: list[Words]) -> list[Words]:
-    """Some options of a cover without which there is no other cover that has them all: what is left follows from them, one by one. So each other
-    cover lacks one of these."""
+    """Some options of a cover without which there is no other cover that has them all: what is left follows from them,
+    one by one. So each other cover lacks one of these."""
     tree, places = Tree(problem), {option.words: place for place, option in enumerate(problem.options)}
     kept = [places[words] for words in chosen]
     if len({option.words for option in problem.options}) < len(problem.options):
@@ -74,7 +76,8 @@ def enough(problem: Problem, chosen: list[Words]) -> list[Words]:
 
 
 def others_of(problem: Problem, answers: list[list[Words]], other: bytes) -> tuple[bytes, Optional[str]]:
-    """The text of the problem of all other covers than these, and what is too much in it for the program, if anything is."""
+    """The text of the problem of all other covers than these, and what is too much in it for the program, if anything
+    is."""
     lines = list(other_lines(problem, answers, other))
     if beyond(lines):
         lines = list(other_lines(problem, [enough(problem, chosen) for chosen in answers], other))

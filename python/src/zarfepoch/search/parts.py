@@ -1,8 +1,10 @@
-"""A search taken apart: the open prefixes of a problem's search tree, each as a problem of its own. For the scripts that split and join.
+"""A search taken apart: the open prefixes of a problem's search tree, each as a problem of its own. For the scripts
+that split and join.
 
-The tree is that of the search: a prefix is a list of options no two of which clash, its branch item the uncovered primary item with
-fewest live options, the first of those, and its children are the prefix followed by one of these. A prefix whose primary items are all
-covered is a cover; one whose branch item has no live option is barren; any other is open.
+The tree is that of the search: a prefix is a list of options no two of which clash, its branch item the uncovered
+primary item with fewest live options, the first of those, and its children are the prefix followed by one of these. A
+prefix whose primary items are all covered is a cover; one whose branch item has no live option is barren; any other is
+open.
 """
 from __future__ import annotations
 
@@ -21,8 +23,8 @@ size_of: Callable[[int], int] = getattr(int, "bit_count", lambda options: bin(op
 
 
 class Prefix(NamedTuple):
-    """Options by their places in the file, in the order of choice; what is live, as a set; the branch item, None where all are covered;
-    and of the live options those that name it."""
+    """Options by their places in the file, in the order of choice; what is live, as a set; the branch item, None where
+    all are covered; and of the live options those that name it."""
     options: tuple[int, ...]
     live: int
     item: Optional[bytes]
@@ -52,7 +54,8 @@ class Tree:
                 self.giving[name, colour] = self.giving.get((name, colour), 0) | bit
 
     def barred_by(self, place: int) -> int:
-        """The options that clash with this one: that name an item of it, and don't give it the colour that this one gives it."""
+        """The options that clash with this one: that name an item of it, and don't give it the colour that this one
+        gives it."""
         option, barred = self.problem.options[place], 0
         for name, colour in zip(option.names, option.colours):
             agreeing = 0 if colour is None else self.giving[name, colour]
@@ -81,14 +84,16 @@ class Tree:
 
 
 class Split(NamedTuple):
-    """What a tree was taken apart into: a cover, if one was met, or else its open and its barren prefixes, in the order of the search."""
+    """What a tree was taken apart into: a cover, if one was met, or else its open and its barren prefixes, in the order
+    of the search."""
     cover: Optional[Prefix]
     parts: list[Prefix]
     barren: list[Prefix]
 
 
 def split(tree: Tree, number: int) -> Split:
-    """Takes a tree apart, breadth first, until there are at least so many open prefixes, or none is left, or one is a cover."""
+    """Takes a tree apart, breadth first, until there are at least so many open prefixes, or none is left, or one is a
+    cover."""
     born = [tree.root()]
     barren: list[Prefix] = []
     waiting: collections.deque[Prefix] = collections.deque()
@@ -119,7 +124,8 @@ def certificate_name(number: int) -> str:
 
 
 def items_left(tree: Tree, prefix: Prefix) -> tuple[list[bytes], list[bytes]]:
-    """The primary and the secondary items that are left: what the prefix covers is gone, but for secondary items that it gives a colour."""
+    """The primary and the secondary items that are left: what the prefix covers is gone, but for secondary items that
+    it gives a colour."""
     chosen = [tree.problem.options[place] for place in prefix.options]
     gone = {name for option in chosen for name, colour in zip(option.names, option.colours) if colour is None}
     names = tree.problem.names()

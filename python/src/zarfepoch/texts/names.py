@@ -22,7 +22,8 @@ WORD = re.compile(r'"([^"]*)"(?=[\s,;]|$)|([^\s,;]+)')
 
 
 def names_in(path: str, number: int, line: str) -> list[str]:
-    """The names of a line. Blanks, commas and semicolons part them; a pair of quotation marks round a name is none of it."""
+    """The names of a line. Blanks, commas and semicolons part them; a pair of quotation marks round a name is none of
+    it."""
     names = []
     for found in WORD.finditer(line):
         name = found[2] if found[1] is None else found[1].strip()
@@ -51,7 +52,8 @@ def as_seen(name: str) -> str:
 
 
 def in_one_case(name: str) -> str:
-    """What two spellings of a proper name share: capital and small letters are alike, and a full stop at its end isn't seen."""
+    """What two spellings of a proper name share: capital and small letters are alike, and a full stop at its end isn't
+    seen."""
     return as_seen(name).casefold().rstrip(".")
 
 
@@ -66,14 +68,16 @@ def want_one_spelling(path: str, what: str, names: Iterable[tuple[int, str]], sp
 
 
 def loose(name: str) -> set[str]:
-    """What names share that differ in capitals, accents, or blanks, hyphens and full stops alone, which count only between digits."""
+    """What names share that differ in capitals, accents, or blanks, hyphens and full stops alone, which count only
+    between digits."""
     seen = re.sub(r"(?<!\d)[\s._-]+|[\s._-]+(?!\d)", "", as_seen(name).casefold())
     plain = "".join(letter for letter in unicodedata.normalize("NFKD", seen) if not unicodedata.combining(letter))
     return {plain.translate(PLAIN), seen.translate(DOTTED)} - {""}
 
 
 def hint_alike(path: str, what: str, names: Iterable[tuple[int, str]]) -> None:
-    """Tells of names that may be one, since they differ in capitals, blanks or accents alone; each comes with its line."""
+    """Tells of names that may be one, since they differ in capitals, blanks or accents alone; each comes with its
+    line."""
     first: dict[str, int] = {}
     for number, name in names:
         first.setdefault(name, number)
@@ -90,7 +94,8 @@ def hint_alike(path: str, what: str, names: Iterable[tuple[int, str]]) -> None:
 
 
 def is_one_letter(one: str, other: str) -> bool:
-    """Whether a letter that is inserted, left out or changed, or two neighbours that are swapped, make one word of the other."""
+    """Whether a letter that is inserted, left out or changed, or two neighbours that are swapped, make one word of the
+    other."""
     begin = len(os.path.commonprefix([one, other]))
     end = len(os.path.commonprefix([one[begin:][::-1], other[begin:][::-1]]))
     mine, its = one[begin:len(one) - end], other[begin:len(other) - end]
@@ -98,7 +103,8 @@ def is_one_letter(one: str, other: str) -> bool:
 
 
 def is_slip(name: str, other: str) -> bool:
-    """Whether two names differ in one letter of a word, so that one may be a slip for the other; not where they end in digits, or count as alike."""
+    """Whether two names differ in one letter of a word, so that one may be a slip for the other; not where they end in
+    digits, or count as alike."""
     if any(re.search(r"\d\W*$", one) or sum(map(str.isalpha, one)) < LETTERS for one in (name, other)) or loose(name) & loose(other):
         return False
     words, others = (re.split(r"[\s._-]+", as_seen(one).casefold()) for one in (name, other))
@@ -107,7 +113,8 @@ def is_slip(name: str, other: str) -> bool:
 
 
 def hint_slips(path: str, what: str, names: Iterable[tuple[int, str]]) -> None:
-    """Tells of names that stand in one line alone and differ in one letter from a name that stands in more; each comes with its line."""
+    """Tells of names that stand in one line alone and differ in one letter from a name that stands in more; each comes
+    with its line."""
     lines: dict[str, list[int]] = {}
     for number, name in dict.fromkeys(names):
         lines.setdefault(name, []).append(number)

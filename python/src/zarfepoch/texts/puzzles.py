@@ -1,4 +1,5 @@
-"""Texts in which people bring puzzles: how files are read, how a mistake in one is reported with its line, and what is made of them."""
+"""Texts in which people bring puzzles: how files are read, how a mistake in one is reported with its line, and what is
+made of them."""
 from __future__ import annotations
 
 import re
@@ -21,14 +22,16 @@ Lists = tuple[list[str], list[str], list[list[str]]]
 
 @dataclass
 class Change:
-    """A small change of what a puzzle gives, in its own words, as `without the 8 in row 8 column 6`, and the puzzle that it makes."""
+    """A small change of what a puzzle gives, in its own words, as `without the 8 in row 8 column 6`, and the puzzle
+    that it makes."""
     words: str
     puzzle: Callable[[], Puzzle]
 
 
 @dataclass
 class Puzzle:
-    """A problem's items and options, what its file says of them in comments, and changes after which it may have a solution if it has none."""
+    """A problem's items and options, what its file says of them in comments, and changes after which it may have a
+    solution if it has none."""
     primary: list[str]
     secondary: list[str]
     options: list[list[str]]
@@ -66,7 +69,8 @@ class PlainlyNone(SystemExit):
 
 
 def no_cover(why: str, changes: Iterable[Change] = ()) -> NoReturn:
-    """Ends the script: the puzzle has no solution, and that is plain without a search. With some changes it may have one."""
+    """Ends the script: the puzzle has no solution, and that is plain without a search. With some changes it may have
+    one."""
     complain(why)
     raise PlainlyNone(changes)
 
@@ -93,8 +97,8 @@ def bytes_of(path: str) -> bytes:
 
 
 def text_in(path: str, content: bytes) -> str:
-    """The text of these bytes, in which a letter with a mark is one character wherever there is one for both, as some systems write two. Where
-    they are no text in UTF-8, the script ends and says how a spreadsheet writes one."""
+    """The text of these bytes, in which a letter with a mark is one character wherever there is one for both, as some
+    systems write two. Where they are no text in UTF-8, the script ends and says how a spreadsheet writes one."""
     if content.startswith((b"PK\3\4", b"\xd0\xcf\x11\xe0")):
         return refuse(path, None, "this is a spreadsheet's own file; save the table as CSV in UTF-8")
     try:
@@ -112,7 +116,8 @@ def rows_of(path: str) -> list[tuple[int, str]]:
 
 
 def blocks_of(path: str) -> list[list[tuple[int, str]]]:
-    """The runs of lines that aren't blank, each line with its number; a line that begins with `|` and a blank is a comment."""
+    """The runs of lines that aren't blank, each line with its number; a line that begins with `|` and a blank is a
+    comment."""
     blocks: list[list[tuple[int, str]]] = [[]]
     for number, line in rows_of(path):
         if re.match(r"\s*\|(\s|$)", line):

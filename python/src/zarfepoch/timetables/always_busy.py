@@ -1,7 +1,8 @@
 """Which places are taken however lessons are laid into them, and which lessons have too few.
 
-A lesson wants one of several places: periods of a class, say, or rooms at periods. A matching gives each its own place. Where there is
-none, some lessons together have fewer places than they are (Hall's theorem). Else a place is always busy if no matching leaves it free.
+A lesson wants one of several places: periods of a class, say, or rooms at periods. A matching gives each its own place.
+Where there is none, some lessons together have fewer places than they are (Hall's theorem). Else a place is always busy
+if no matching leaves it free.
 """
 from __future__ import annotations
 
@@ -29,7 +30,8 @@ def moved(place: Place | None, came_from: dict[Place, int], place_of: dict[int, 
 
 
 def seat(lesson: int, wanted: Sequence[Sequence[Place]], place_of: dict[int, Place], holder: dict[Place, int]) -> None:
-    """Finds a place for one more lesson by moving others; raises `Shortage` where it has none, with all lessons that want no other places."""
+    """Finds a place for one more lesson by moving others; raises `Shortage` where it has none, with all lessons that
+    want no other places."""
     came_from, reached = {}, [lesson]
     for one in reached:
         for place in wanted[one]:

@@ -1,4 +1,5 @@
-"""How the program is asked for a timetable: where a plan is kept, by short searches first, in which ever more of its lessons may move."""
+"""How the program is asked for a timetable: where a plan is kept, by short searches first, in which ever more of its
+lessons may move."""
 from __future__ import annotations
 
 import itertools
@@ -14,7 +15,8 @@ from .problem import Timetable
 TRY_VISITS = 2_000
 # for so many seconds a plan is looked for where no time is told, before parts of the school are tried by themselves
 TRY_SECONDS = 20.0
-# so many choices of lessons that may move are tried before more of them may, or fewer, one at least, where they take more than this part of the time
+# so many choices of lessons that may move are tried before more of them may, or fewer, one at least, where they take
+# more than this part of the time
 CHOICES, SHARE = 30, 1 / 20
 
 
@@ -36,8 +38,8 @@ def near_first(timetable: Timetable, released: set[str]) -> list[list[str]]:
 
 
 def movable(timetable: Timetable, draw: random.Random, seconds: float) -> Iterator[set[str]]:
-    """Choices of lessons that may move where a plan is kept: those that can't stay, and ever more of those that have to do with them, as far as their
-    searches take so many seconds."""
+    """Choices of lessons that may move where a plan is kept: those that can't stay, and ever more of those that have to
+    do with them, as far as their searches take so many seconds."""
     unfit = timetable.unfit()
     yield unfit
     near = near_first(timetable, unfit)
@@ -51,7 +53,8 @@ def movable(timetable: Timetable, draw: random.Random, seconds: float) -> Iterat
 
 
 def fewer_moved(program: str, timetable: Timetable, released: set[str], found: ProgramAnswer, limit: float) -> ProgramAnswer:
-    """An answer in which fewer lessons move than these, which have moved in this one: each of them is tried in its places, one after the other."""
+    """An answer in which fewer lessons move than these, which have moved in this one: each of them is tried in its
+    places, one after the other."""
     for name in sorted(released - timetable.unfit()):
         if time.monotonic() < limit:
             again = shortly(program, timetable.kept(released - {name}))
@@ -61,8 +64,9 @@ def fewer_moved(program: str, timetable: Timetable, released: set[str], found: P
 
 
 def planned(program: str, timetable: Timetable, is_kept: bool, seconds: float) -> Optional[ProgramAnswer]:
-    """The answer to the problem of a timetable, where it is found in so many seconds, or how the program failed. Where a plan is kept, short searches
-    come first, in which ever more of its lessons may move; their `none` says nothing of the problem as it is."""
+    """The answer to the problem of a timetable, where it is found in so many seconds, or how the program failed. Where
+    a plan is kept, short searches come first, in which ever more of its lessons may move; their `none` says nothing of
+    the problem as it is."""
     limit = time.monotonic() + seconds
     choices = movable(timetable, random.Random(1), seconds) if is_kept else iter(())
     for released in itertools.takewhile(lambda _: time.monotonic() < limit, choices):

@@ -1,8 +1,9 @@
-"""Why a school has no timetable, in the words of its tables: a class, a teacher, a room or two classes for which there is none by themselves, and of
-their rows the fewest that can't be together.
+"""Why a school has no timetable, in the words of its tables: a class, a teacher, a room or two classes for which there
+is none by themselves, and of their rows the fewest that can't be together.
 
-Rows are left out as long as the program still answers `none`. What is left out only takes conditions away: of people who lose lessons so, no holes are
-counted any more, as these lessons might fill them. So where some rows have no timetable, all have none.
+Rows are left out as long as the program still answers `none`. What is left out only takes conditions away: of people
+who lose lessons so, no holes are counted any more, as these lessons might fill them. So where some rows have no
+timetable, all have none.
 """
 from __future__ import annotations
 
@@ -26,8 +27,8 @@ QUESTION = 1.0
 
 
 class Core(NamedTuple):
-    """Lessons that can't be together, of which none can be left out where all questions were answered; whose they are, the people and rooms whose
-    rules matter, and whether the time was over before fewer were found."""
+    """Lessons that can't be together, of which none can be left out where all questions were answered; whose they are,
+    the people and rooms whose rules matter, and whether the time was over before fewer were found."""
     of: str
     lessons: list[Lesson]
     rules: list[str]

@@ -1,4 +1,5 @@
-"""Plans of a school as tables: a row for each time that a lesson is given. A plan that is to be kept puts its places before others."""
+"""Plans of a school as tables: a row for each time that a lesson is given. A plan that is to be kept puts its places
+before others."""
 from __future__ import annotations
 
 import re
@@ -54,8 +55,9 @@ def read_plan(path: str, school: School) -> Plan:
 
 
 def places_of(plan: Plan, hour: Hour) -> list[Place]:
-    """Where a time of a lesson may be so that it stays in a plan. Times with numbers are in the order of the week, so each of them may take any place of
-    its lesson: where one time goes elsewhere, the others stay, whatever their numbers are then."""
+    """Where a time of a lesson may be so that it stays in a plan. Times with numbers are in the order of the week, so
+    each of them may take any place of its lesson: where one time goes elsewhere, the others stay, whatever their
+    numbers are then."""
     places = plan.get((hour.lesson.title, frozenset(hour.lesson.classes)), [])
     if hour.is_fixed:
         return [place for place in places if place.period == hour.steps[0].run[0]]
@@ -64,7 +66,8 @@ def places_of(plan: Plan, hour: Hour) -> list[Place]:
 
 
 def difference(places: list[Place], step: Step) -> int:
-    """How far a way to give a lesson is from where it was: 0 the same, 1 with other people or rooms, `MOVED` in other periods."""
+    """How far a way to give a lesson is from where it was: 0 the same, 1 with other people or rooms, `MOVED` in other
+    periods."""
     here = [place for place in places if place.period == step.run[0]]
     if not here:
         return MOVED

@@ -1,8 +1,8 @@
 """Timetables as exact covers: a table of lessons, and perhaps one of rules, becomes a problem's items and options.
 
-Each lesson is given as often as it should be, and nobody and no room is in two places at a time. Who is busy in every period, whatever the
-timetable, has primary items for its periods: the search then looks at them first, and covers stay the same. What can't be because there are
-too few periods is found by counting, before any search.
+Each lesson is given as often as it should be, and nobody and no room is in two places at a time. Who is busy in every
+period, whatever the timetable, has primary items for its periods: the search then looks at them first, and covers stay
+the same. What can't be because there are too few periods is found by counting, before any search.
 
 All that is more than lessons and busy periods has items with a `<` in their names:
 
@@ -38,7 +38,8 @@ from .steps import all_periods, always, Block, blocks_of, by_days, Days, followe
 from .tables import Lesson
 from .weeks import day_of, in_week
 
-# from so many options on their order is drawn by lot: a search that tries each lesson at Monday's first period first seldom ends
+# from so many options on their order is drawn by lot: a search that tries each lesson at Monday's first period first
+# seldom ends
 MANY = 100
 # into so many parts the week is divided at most for the order of the times of a lesson
 PARTS = 4
@@ -80,7 +81,8 @@ class Names:
 # ---- the order of the times of a lesson, and how often it is given on a day
 
 class Ordered:
-    """The times of a lesson that are alike: which items a time names beside the people, if it is on this day or in this part of the week."""
+    """The times of a lesson that are alike: which items a time names beside the people, if it is on this day or in this
+    part of the week."""
 
     def __init__(self, name: str, hours: list[Hour], days: list[str]) -> None:
         self.name, self.hours = name, hours
@@ -129,7 +131,8 @@ def want_parts(orders: Iterable[Ordered], room: int, periods: list[str]) -> None
 
 @dataclass
 class Free:
-    """What keeps somebody's day in a pattern: primary items, secondary ones, options, and the busy items that become primary."""
+    """What keeps somebody's day in a pattern: primary items, secondary ones, options, and the busy items that become
+    primary."""
     primary: list[str] = field(default_factory=list)
     secondary: list[str] = field(default_factory=list)
     options: list[list[str]] = field(default_factory=list)
@@ -168,7 +171,8 @@ def in_patterns(school: School, names: Names, who: str, days: dict[str, list[str
 
 
 def kept_free(school: School, names: Names, who: str, days: dict[str, list[str]]) -> Free:
-    """Somebody who has at most so many periods a day: the others are taken away, the first of them from the first ones of the day."""
+    """Somebody who has at most so many periods a day: the others are taken away, the first of them from the first ones
+    of the day."""
     most, free = school.rules[who].a_day or 0, Free()
     for day, candidates in days.items():
         spare = len(candidates) - most
@@ -179,7 +183,8 @@ def kept_free(school: School, names: Names, who: str, days: dict[str, list[str]]
 
 
 def days_free(school: School, names: Names, blocks: list[Block], busy: set[tuple[str, str]], hours: dict[str, list[Hour]]) -> dict[str, Free]:
-    """For each of whom a rule counts periods or holes, what keeps their days so. `hours` are the times that surely busy each."""
+    """For each of whom a rule counts periods or holes, what keeps their days so. `hours` are the times that surely busy
+    each."""
     periods, found = all_periods(school), {}
     at: dict[str, set[str]] = {}
     for step in (step for block in blocks for way in block.ways for step, hour in zip(way, block.hours)):
@@ -213,7 +218,8 @@ def most_a_day(lessons: Iterable[Lesson]) -> int:
 
 
 def week_patterns(school: School, who: str, days: dict[str, list[str]], periods: list[str], busy: int) -> list[list[str]]:
-    """The free periods of each week without a hole in which somebody is busy so often; none where they are too many for one item."""
+    """The free periods of each week without a hole in which somebody is busy so often; none where they are too many for
+    one item."""
     rule = school.rules[who]
     weeks: list[list[str]] = [[]]
     left = sum(map(len, days.values())) - busy
@@ -263,8 +269,8 @@ def implied(school: School, lessons: list[Lesson]) -> list[str]:
 # ---- the problem
 
 class Ranked(NamedTuple):
-    """An option with the lessons that it gives, how far it is from where they were in a plan that is to be kept (0 is the same), and the period in
-    which each of them begins."""
+    """An option with the lessons that it gives, how far it is from where they were in a plan that is to be kept (0 is
+    the same), and the period in which each of them begins."""
     lessons: tuple[str, ...]
     rank: int
     option: list[str]
@@ -284,7 +290,8 @@ class Timetable(Puzzle):
         return replace(self, options=[one.option for one in ranked], ranked=ranked)
 
     def unfit(self) -> set[str]:
-        """The lessons that can't stay where they are in the plan: there are fewer places for them than they have times."""
+        """The lessons that can't stay where they are in the plan: there are fewer places for them than they have
+        times."""
         places = {(lesson, period) for one in self.ranked if one.rank < MOVED for lesson, period in zip(one.lessons, one.begins)}
         counts = Counter(lesson for lesson, _ in places)
         return {name for name, lesson in self.lessons.items() if counts[name] < lesson.times}
@@ -316,7 +323,8 @@ class Problem:
         return [block for some, days in found for block in (days.blocks if days else some)], [days for _, days in found if days]
 
     def days_off(self) -> tuple[list[str], list[list[str]]]:
-        """The items that choose the days of lessons, and their options, each of which covers the items of the other days."""
+        """The items that choose the days of lessons, and their options, each of which covers the items of the other
+        days."""
         items, options = [], []
         for days in (days for days in self.chosen_days if len(days.blocks) > days.count):
             items.append(f"{self.names.of(days.blocks[0].hours[0].lesson.name)}<days")
@@ -375,7 +383,8 @@ class Problem:
             Ranked((), 0, option) for option in self.days_off()[1]]
 
     def puzzle(self, plan: Optional[Plan], seed: Optional[int]) -> Timetable:
-        """The items and options, with comments that tell of names. Many options are in an order by lot, those of the plan before others."""
+        """The items and options, with comments that tell of names. Many options are in an order by lot, those of the
+        plan before others."""
         needed = self.sorted_items([ranked.option for ranked in self.ranked(None)])
         want_parts(self.orders.values(), MAX_ITEMS - sum(map(len, needed)), all_periods(self.school))
         ranked = self.ranked(plan)
@@ -388,7 +397,8 @@ class Problem:
         return Timetable(primary, secondary, options, self.told(), ranked=ranked, lessons=lessons, school=self.school)
 
     def sorted_items(self, options: list[list[str]]) -> tuple[list[str], list[str]]:
-        """The primary items, those that are busy in any case first, since the search takes the first of equals; and the secondary ones."""
+        """The primary items, those that are busy in any case first, since the search takes the first of equals; and the
+        secondary ones."""
         used = dict.fromkeys(word.partition(":")[0] for option in options for word in option)
         hours = dict.fromkeys(self.names.of_hour(hour) for block in self.blocks for hour in block.hours)
         busy = {self.names.busy(who, period) for who, period in self.busy}
@@ -403,7 +413,8 @@ class Problem:
             others.difference(ordering))
 
     def told(self) -> list[str]:
-        """What the file says of its names in comments: who is what, in which order periods are, and the names that numbers stand for."""
+        """What the file says of its names in comments: who is what, in which order periods are, and the names that
+        numbers stand for."""
         here = {who for lesson in self.lessons for who in lesson.people()}
         groups = {"teachers": "teacher", "classes": "class", "rooms": "room"}
         found = {words: [self.names.of(who) for who, role in self.school.roles.items() if role == one and who in here] for words, one in groups.items()}
@@ -462,8 +473,8 @@ def parted(school: School, blocks: list[Block], busy: set[tuple[str, str]], plan
 
 
 def timetables(school: School, plan: Optional[Plan] = None, seed: Optional[int] = None) -> list[Timetable]:
-    """The problem of a school's timetable, or several where one is too large and some lessons share nothing with others. With a seed the order of
-    options is drawn by lot; with a plan its places come first."""
+    """The problem of a school's timetable, or several where one is too large and some lessons share nothing with
+    others. With a seed the order of options is drawn by lot; with a plan its places come first."""
     want_days(school)
     blocks = blocks_of(school)
     busy = always(school, blocks)
@@ -487,8 +498,8 @@ def note_size(puzzle: Puzzle) -> None:
 
 
 def read_timetables(path: str, rules: Optional[str], keep: Optional[str], seed: Optional[int]) -> list[Timetable]:
-    """The problem of a school's timetable, or several, from the files with its lessons and perhaps with its rules and a plan to be kept. A note tells
-    of one that is near what the program reads."""
+    """The problem of a school's timetable, or several, from the files with its lessons and perhaps with its rules and a
+    plan to be kept. A note tells of one that is near what the program reads."""
     school = read_school(path, rules)
     found = timetables(school, read_plan(keep, school) if keep else None, seed)
     if len(found) == 1:

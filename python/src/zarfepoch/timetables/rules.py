@@ -1,8 +1,10 @@
-"""A school's second table, of rules: when somebody or a room can be had, how many periods a day somebody has at most, and how many holes.
+"""A school's second table, of rules: when somebody or a room can be had, how many periods a day somebody has at most,
+and how many holes.
 
-Its columns are who, periods, away, a_day and holes. `who` is a teacher, a class or a room of the table of lessons, or teachers, classes, rooms or
-all, or lessons: of these a_day says at most how often a day each is given. An empty cell says nothing. Who has several rows, as one of their
-own and one of `teachers`, is there only when all of them say so; of a_day and holes the own row counts.
+Its columns are who, periods, away, a_day and holes. `who` is a teacher, a class or a room of the table of lessons, or
+teachers, classes, rooms or all, or lessons: of these a_day says at most how often a day each is given. An empty cell
+says nothing. Who has several rows, as one of their own and one of `teachers`, is there only when all of them say so; of
+a_day and holes the own row counts.
 """
 from __future__ import annotations
 
@@ -24,7 +26,8 @@ WORDS = ("all", "lessons", *GROUPS.values())
 
 @dataclass
 class Rule:
-    """What is said of somebody: the periods in which they or a room can be had, None for all, at most so many a day, and so many holes in all."""
+    """What is said of somebody: the periods in which they or a room can be had, None for all, at most so many a day,
+    and so many holes in all."""
     line: int
     periods: Optional[set[str]] = None
     a_day: Optional[int] = None
@@ -165,7 +168,8 @@ def read_school(path: str, rules: Optional[str] = None) -> School:
 
 
 def with_whole_days(lessons: list[Lesson], rows: list[Row]) -> list[Row]:
-    """The rows, in which a day without a number, as Mon, is all periods of that day that the lessons or the rows name."""
+    """The rows, in which a day without a number, as Mon, is all periods of that day that the lessons or the rows
+    name."""
     known = [period for lesson in lessons for period in lesson.periods + lesson.fixed]
     known = in_order(known + [period for row in rows for period in row.periods if day_and_number(period)])
 

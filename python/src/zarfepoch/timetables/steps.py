@@ -1,5 +1,5 @@
-"""The ways to give lessons: at each time in the week a run of periods, those teachers and those rooms, as the table and the rules allow; and what
-counting alone shows of them, before any search."""
+"""The ways to give lessons: at each time in the week a run of periods, those teachers and those rooms, as the table and
+the rules allow; and what counting alone shows of them, before any search."""
 from __future__ import annotations
 
 import itertools
@@ -24,7 +24,8 @@ class Step(NamedTuple):
 
 @dataclass
 class Hour:
-    """One time that a lesson is given in the week, and the ways that it may be. `label` is the number of the time, or the day on which it may be."""
+    """One time that a lesson is given in the week, and the ways that it may be. `label` is the number of the time, or
+    the day on which it may be."""
     lesson: Lesson
     label: str
     steps: list[Step]
@@ -236,7 +237,8 @@ class Days:
 
 
 def by_days(blocks: list[Block]) -> Optional[Days]:
-    """The times of a lesson that are alike and at most once a day, as days of which so many are chosen; None where times need fewer items."""
+    """The times of a lesson that are alike and at most once a day, as days of which so many are chosen; None where
+    times need fewer items."""
     first, count = blocks[0].hours[0], len(blocks)
     if first.lesson.a_day != 1 or count < 2 or first.is_fixed:
         return None
@@ -267,7 +269,8 @@ def named_some(hours: list[Hour]) -> str:
 
 
 def limits_of(school: School, hours: list[Hour]) -> str:
-    """What the rules say of the periods of those who have these lessons, and of their rooms, for the end of a message."""
+    """What the rules say of the periods of those who have these lessons, and of their rooms, for the end of a
+    message."""
     people = dict.fromkeys(who for hour in hours for who in hour.lesson.people())
     limited = [who for who in people if who in school.rules and school.rules[who].periods is not None]
     return "".join(f"; {rule_words(school, who)}" for who in limited[:4])
@@ -279,7 +282,8 @@ def seats_of(hours: list[Hour]) -> list[Hour]:
 
 
 def hours_by_name(school: School, blocks: list[Block]) -> dict[str, list[Hour]]:
-    """The times that surely busy each name; of rooms those that some lesson wants with others, since the rest are counted together."""
+    """The times that surely busy each name; of rooms those that some lesson wants with others, since the rest are
+    counted together."""
     found: dict[str, list[Hour]] = {}
     together = {room for lesson in school.lessons for rooms in lesson.rooms if len(rooms) > 1 for room in rooms}
     for hour in (hour for block in blocks for hour in block.hours):
@@ -307,7 +311,8 @@ def want_days_enough(school: School, who: str, hours: list[Hour]) -> None:
 
 
 def needed_by_days(hours: list[Hour]) -> dict[str, list[Hour]]:
-    """For each day the times that have to be on it, whatever the timetable: those for which the other days have no room."""
+    """For each day the times that have to be on it, whatever the timetable: those for which the other days have no
+    room."""
     alike: dict[tuple[int, frozenset[tuple[str, ...]]], list[Hour]] = {}
     for hour in hours:
         alike.setdefault((id(hour.lesson), frozenset(step.run for step in hour.steps)), []).append(hour)
@@ -352,7 +357,8 @@ def busy_of(school: School, who: str, hours: list[Hour]) -> set[str]:
 
 
 def busy_rooms(school: School, hours: list[Hour]) -> set[tuple[str, str]]:
-    """The rooms and periods that are always taken; where there are too few, the script ends. Of rooms that are wanted at once one is counted."""
+    """The rooms and periods that are always taken; where there are too few, the script ends. Of rooms that are wanted
+    at once one is counted."""
     seats = [hour for hour in seats_of(hours) if all(hour.lesson.rooms)]
     try:
         return always_busy([list(dict.fromkeys((room, period) for step in hour.steps for room in step.rooms for period in step.run)) for hour in seats])

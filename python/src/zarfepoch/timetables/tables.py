@@ -1,7 +1,7 @@
 """Tables of lessons as people write them, in CSV: who gives which lesson to whom, where and when it may be.
 
-A cell may name several: teachers or classes that share a lesson, rooms of which it has one or that it wants at once, periods of which it has
-one. What can be meant in two ways is refused with its line.
+A cell may name several: teachers or classes that share a lesson, rooms of which it has one or that it wants at once,
+periods of which it has one. What can be meant in two ways is refused with its line.
 """
 from __future__ import annotations
 
@@ -30,8 +30,9 @@ Together = tuple[str, ...]
 
 @dataclass
 class Lesson:
-    """A lesson of the table: of several teachers, or of several rooms, those that have it together, one choice of which it has; how often in the
-    week it is given, in how many periods one after another, and at most how often on a day. `title` is its name as the table has it."""
+    """A lesson of the table: of several teachers, or of several rooms, those that have it together, one choice of which
+    it has; how often in the week it is given, in how many periods one after another, and at most how often on a day.
+    `title` is its name as the table has it."""
     line: int
     title: str
     name: str
@@ -149,7 +150,8 @@ def want_names(path: str, line: int, row: dict[str, str]) -> None:
 
 
 class Rooms:
-    """The rooms of cells: blanks, `;`, `,` and `or` part those of which a lesson has one, `+` those that it wants at once."""
+    """The rooms of cells: blanks, `;`, `,` and `or` part those of which a lesson has one, `+` those that it wants at
+    once."""
 
     def __init__(self, path: str, cells: list[str]) -> None:
         self.path = path
@@ -180,8 +182,8 @@ class Rooms:
 
 
 class People:
-    """Who the cells of a column name. `or` parts those of whom a lesson has one; `;`, `,` and `+` part names of those who share it, and a
-    blank, `/` or `&` does where what it parts are names elsewhere."""
+    """Who the cells of a column name. `or` parts those of whom a lesson has one; `;`, `,` and `+` part names of those
+    who share it, and a blank, `/` or `&` does where what it parts are names elsewhere."""
 
     def __init__(self, path: str, column: str, cells: list[str]) -> None:
         self.path, self.column = path, column
@@ -261,7 +263,8 @@ def want_different(path: str, lessons: list[Lesson]) -> None:
 
 
 def want_no_periods(path: str, lessons: list[Lesson]) -> None:
-    """Refuses a lesson that is called as somebody or a room with a period is, as ann-Mon1, since that is an item too."""
+    """Refuses a lesson that is called as somebody or a room with a period is, as ann-Mon1, since that is an item
+    too."""
     periods = {period for lesson in lessons for period in lesson.periods}
     busy = {f"{who}-{period}" for who in {who for lesson in lessons for who in lesson.people()} for period in periods}
     for lesson in lessons:
@@ -277,7 +280,8 @@ def roles_of(lesson: Lesson) -> list[tuple[str, list[str]]]:
 
 
 def want_roles(path: str, lessons: list[Lesson], cells: dict[int, str]) -> None:
-    """Refuses a name of a teacher that is one of a class or a room too, and so on. `cells` are those of rooms, by lines."""
+    """Refuses a name of a teacher that is one of a class or a room too, and so on. `cells` are those of rooms, by
+    lines."""
     roles: dict[str, str] = {}
     for lesson in lessons:
         for role, names in roles_of(lesson):
@@ -303,7 +307,8 @@ def want_one_way(path: str, lessons: list[Lesson]) -> None:
 
 
 def hint_names(path: str, lessons: list[Lesson]) -> None:
-    """Tells of names that may be one: of people and rooms, of lessons of one class, and of words that keep lessons apart; and of slips."""
+    """Tells of names that may be one: of people and rooms, of lessons of one class, and of words that keep lessons
+    apart; and of slips."""
     for what in ("teacher", "class", "room"):
         found = [(lesson.line, name) for lesson in lessons for role, names in roles_of(lesson) if role == what for name in names]
         hint_alike(path, what, found)

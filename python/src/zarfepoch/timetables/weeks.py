@@ -1,4 +1,5 @@
-"""Periods of a week: their days and numbers, ranges as Mon1-4 and Mon-Fri1-6, and the order in which people read them."""
+"""Periods of a week: their days and numbers, ranges as Mon1-4 and Mon-Fri1-6, and the order in which people read
+them."""
 from __future__ import annotations
 
 import re
@@ -23,7 +24,8 @@ WEEKDAYS = [day for week in FULL for day in week.split()]
 
 
 def day_and_number(period: str) -> Optional[tuple[str, int]]:
-    """The day of a period and its number there, as of Mon1 or 2.1; a number alone is of no day, and None what ends with no number."""
+    """The day of a period and its number there, as of Mon1 or 2.1; a number alone is of no day, and None what ends with
+    no number."""
     found = re.fullmatch(r"(.*\D)?(\d{1,4})", period)
     return (found[1] or "", int(found[2])) if found else None
 
@@ -47,7 +49,8 @@ def natural(name: str) -> list[tuple[int, int, str]]:
 
 
 def in_week(days: Iterable[str]) -> list[str]:
-    """Days in the order of the week, if they are days of one in some language; else by their numbers, or as they come."""
+    """Days in the order of the week, if they are days of one in some language; else by their numbers, or as they
+    come."""
     some = list(days)
     for week in WEEKS:
         places = {day: [k for k, name in enumerate(week) if bare(day).startswith(name)] for day in some}
@@ -87,8 +90,8 @@ class Periods:
         self.days = {bare(word) for cell in cells for word in re.findall(r"[^\W\d_]+", cell)}
 
     def days_between(self, first: str, last: str) -> list[str]:
-        """The days of the week from one to another, written as these are; none where they are no days of one week, or of several that differ
-        between and no other day of the table tells which."""
+        """The days of the week from one to another, written as these are; none where they are no days of one week, or
+        of several that differ between and no other day of the table tells which."""
         spans: dict[tuple[str, ...], int] = {}
         for week in WEEKS:
             if bare(first) in week and bare(last) in week and week.index(bare(first)) < week.index(bare(last)):
@@ -129,7 +132,8 @@ class Periods:
 
 
 def want_joined(path: str, line: int, column: str, cell: str, alone: set[str]) -> None:
-    """Refuses a name and a number with a blank between, as in `room 12` or `Mon 1`, which would be two, unless one of them stands alone elsewhere."""
+    """Refuses a name and a number with a blank between, as in `room 12` or `Mon 1`, which would be two, unless one of
+    them stands alone elsewhere."""
     for word, number in re.findall(r"(?<![^\s;,])([^\s;,\d]+)\s+(\d+(?:-\d+)?)(?![^\s;,])", cell):
         if alone.isdisjoint((word, number)):
             one = f"{word}{number}" if column == "periods" else f"{word}_{number}"
