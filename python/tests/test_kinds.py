@@ -329,6 +329,16 @@ def test_plan_files(trial: Solving) -> None:
         assert name in "".join(ElementTree.parse(os.path.join(folder, f"{name}.svg")).getroot().itertext()), f"the picture of {name}"
 
 
+def test_grid_of_a_crossword(trial: Solving) -> None:
+    """The grid of a crossword is no table that is written: it may come from the standard input beside a picture."""
+    words = trial.path("few-words.txt", "ab bc\n")
+    call = [sys.executable, "-m", "zarfepoch", "crossword", "-", words, "--out", "-"]
+    ended = subprocess.run(call, input="..\n#.\n", capture_output=True, text=True, env=trial.environment, timeout=300)
+    assert ended.returncode == 0 and ended.stdout.startswith("<svg "), f"a picture: {ended.stderr}"
+    status, lines, _ = trial.run("crossword", trial.path("grid.txt", "..\n#.\n"), trial.path("other-words.txt", "ab cd\n"))
+    assert status == 1 and not any("No picture" in line for line in lines), f"no picture was wanted: {lines}"
+
+
 def test_odd_plans(trial: Solving) -> None:
     """Plans of names that can't be those of files, plans without days, and what can't be written."""
     odd = trial.path("odd.csv", "lesson;class;teacher;periods\nart;5/a;.;1-3\nmusic;5_a;bob;1-3\nsport;..;cy;1-3\n")
