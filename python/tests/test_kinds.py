@@ -329,6 +329,16 @@ def test_plan_files(trial: Solving) -> None:
         assert name in "".join(ElementTree.parse(os.path.join(folder, f"{name}.svg")).getroot().itertext()), f"the picture of {name}"
 
 
+def test_plan_in_its_own_place(trial: Solving) -> None:
+    """How many lessons stay is said of the plan that was there, also where the new one is written over it."""
+    table = trial.path("moved.csv", "lesson,teacher,class,periods\nart,bob,5a,Mon2\nmaths,ann,5a,Mon1-2\n")
+    plan = trial.path("kept.csv", "lesson,class,periods\nart,5a,Mon1\nmaths,5a,Mon2\n")
+    status, _, errors = trial.run("timetable", table, "--keep", plan, "--csv", plan)
+    assert status == 0 and "0 of 2 times of lessons stay" in errors, f"the old plan: {errors}"
+    with open(plan, encoding="utf-8") as written:
+        assert "art,bob,5a,-,Mon2,1" in written.read(), "the new plan"
+
+
 def test_grid_of_a_crossword(trial: Solving) -> None:
     """The grid of a crossword is no table that is written: it may come from the standard input beside a picture."""
     words = trial.path("few-words.txt", "ab bc\n")

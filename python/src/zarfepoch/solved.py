@@ -253,9 +253,11 @@ def solved(program: str, puzzle: Puzzle, given: Namespace) -> int:
         return 1
     answer = read_audited(found.text, problem)
     picture = picture_of(problem, [problem.options[place] for _, place in answer.chosen], False)
+    # (the plan that is kept is read before another one takes its place)
+    kept = kept_words(puzzle, found.text, read_plan(given.keep, puzzle.school)) if isinstance(puzzle, Timetable) and puzzle.school and given.keep else ""
     draw(given, with_plans(picture, getattr(given, "plan", [])), puzzle.comments[0])
-    if isinstance(puzzle, Timetable) and puzzle.school and given.keep:
-        complain(kept_words(puzzle, found.text, read_plan(given.keep, puzzle.school)))
+    if kept:
+        complain(kept)
     if not isinstance(puzzle, Timetable) and not given.one and given.out != "-":
         sys.stdout.flush()
         print(only_words(program, problem, found.text, given.seconds))
