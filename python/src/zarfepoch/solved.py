@@ -48,6 +48,7 @@ from typing import Optional
 
 from .command_line.ends import complain, stop
 from .command_line.words import as_called, parser_of
+from .command_line.written import keep_what_is_read
 from .commands import COMMANDS
 from .errors import NoProgram, OutOfMemory, ProgramError, TimeIsUp
 from .files.cover_files import Problem, read_audited, read_problem
@@ -331,6 +332,7 @@ def solve_kind(given: Namespace, words: list[str]) -> int:
     """Answers what a kind and its words ask for; the exit status."""
     if [getattr(given, name, None) for name in ("out", "csv", "grid")].count("-") > 1:
         stop("- is the standard output, which takes one of picture and tables")
+    keep_what_is_read(given)
     try:
         program = find_program()
     except NoProgram as why:
@@ -346,6 +348,7 @@ def solve_kind(given: Namespace, words: list[str]) -> int:
     statuses = []
     for number, puzzle in enumerate(found, 1):
         own = in_parts(given, number, len(found))
+        keep_what_is_read(own)
         if own.problem:
             try:
                 put(own.problem, puzzle.text().decode())
