@@ -465,6 +465,29 @@ def test_wrong_numbers(trial: Solving, what: str, wanted: int, line: Optional[st
     assert status == wanted and (line is None or f"line {line}" in errors) and "Traceback" not in errors, f"{what}: {status} {errors}"
 
 
+# mistakes of one mark, each with the line and the words that name it
+NAMED = (
+    ("kenken", "aa\nbb\n\na=3+ a=3+\n", "line 4: 'a=3+': the cage a makes something already"),
+    ("kenken", "aa\nbb\n\na=3+ b=3+ c=3+\n", "line 4: 'c=3+': there is no cage c"), ("kenken", "aa\nbb\n\na=3+ b=3?\n", "line 4: 'b=3?' isn't what a cage makes"),
+    ("futoshiki", ". .\n^ x\n. .\n", "line 2: the 'x' at place 3 stands beside a '^'"), ("futoshiki", ". .\n. v\n. .\n", "line 2: the '.' at place 1 stands"),
+    ("tents", "T.\n.. 1\n0 1\n", "line 1: cells and the number of their tents behind a blank are expected, and here is 'T.' alone"),
+    ("tents", "T. 1\n.. 0\n", "line 2: the last line has the numbers of tents in columns"))
+
+
+@pytest.mark.parametrize("kind, text, told", NAMED, ids=[told for *_, told in NAMED])
+def test_named_mistakes(trial: Solving, kind: str, text: str, told: str) -> None:
+    """A mistake is named by the mark that is wrong."""
+    status, _, errors = trial.run(kind, trial.path("mistake.txt", text))
+    assert status == 3 and told in errors, f"{kind} {text!r}: {status} {errors}"
+
+
+def test_minus_signs(trial: Solving) -> None:
+    """A minus is one in all its spellings."""
+    for minus in ("-", "\u2212", "\u2013"):
+        status, lines, errors = trial.run("kenken", trial.path("minus.txt", f"aa\nbb\n\na=1{minus} b=1{minus}\n"), "--count")
+        assert status == 0 and lines == ["There are 2 solutions."], f"{minus}: {lines} {errors}"
+
+
 def test_windows_and_colours(trial: Solving) -> None:
     status, lines, errors = trial.run("sudoku", os.path.join(TOP, "examples", "hyper.txt"), "--hyper")
     rows = [re.findall(r"\d", line) for line in lines if re.search(r"\d", line)]
