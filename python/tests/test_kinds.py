@@ -397,6 +397,15 @@ def test_written(trial: Solving) -> None:
         assert status == wanted and "Traceback" not in errors, f"the program {program}: {status} {errors}"
 
 
+@pytest.mark.parametrize("text", ("inf", "1e9", "1000001", "nan", "0", "-1", "x", ""))
+def test_seconds_that_are_none(trial: Solving, text: str) -> None:
+    """A time that the program doesn't take is a mistake on the command line, and says what is expected."""
+    for words in (["queens", "4", f"--seconds={text}"], ["--json", os.devnull, f"--seconds={text}"]):
+        status, lines, errors = trial.run(*words)
+        assert (status, lines) == (2, []) and f"'{text}' is no number above 0, up to 1,000,000" in errors, f"{words}: {status} {errors}"
+    assert trial.run("queens", "4", "--seconds", "1e6", "--one")[0] == 0, "a million is one"
+
+
 def test_spellings(trial: Solving) -> None:
     """One sudoku in many spellings; boxes in both ways; words in capitals and small letters."""
     bare = SUDOKU.replace(" ", "")

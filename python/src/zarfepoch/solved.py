@@ -78,6 +78,8 @@ from .timetables.weeks import in_order
 Time = tuple[tuple[str, frozenset[str]], str]
 
 NO_ANSWER = 4
+# the program takes a limit of at most a million seconds
+MOST_SECONDS = 1_000_000
 # how long another answer is looked for where no time is told, and a reason at most
 OTHER_SECONDS = 10.0
 # every so many seconds it is said that a search goes on, and so many lessons that moved are told
@@ -88,7 +90,7 @@ def command_line() -> argparse.ArgumentParser:
     *tools, last = (name.replace("zarfepoch-", "") for name in COMMANDS if name != "zarfepoch")
     parser = parser_of((__doc__ or "").replace("%KINDS%", textwrap.fill(kinds_listed(), 130)).replace("%TOOLS%", f"{', '.join(tools)} and {last}"))
     parser.add_argument("--json", metavar="FILE", help="a problem in JSON, in place of a kind")
-    parser.add_argument("--seconds", metavar="N", type=positive, help="how long a search may take (no limit where it isn't given)")
+    parser.add_argument("--seconds", metavar="N", type=seconds_of, help="how long a search may take (no limit where it isn't given)")
     for words in kinds_of(parser):
         words.add_argument("--out", metavar="FILE.svg", help="where the picture is written, - for the standard output")
         if not words.prog.endswith("timetable"):
@@ -97,18 +99,21 @@ def command_line() -> argparse.ArgumentParser:
             which.add_argument("--all", action="store_true", help="draw each solution, in the terminal")
             which.add_argument("--count", action="store_true", help="say how many solutions there are, and draw none")
         words.add_argument("--problem", metavar="FILE.dlx", help="where the problem is written that the program gets")
-        words.add_argument("--seconds", metavar="N", type=positive, default=argparse.SUPPRESS, help="how long a search may take")
+        words.add_argument("--seconds", metavar="N", type=seconds_of, default=argparse.SUPPRESS, help="how long a search may take")
         if words.prog.endswith("timetable"):
             add_tables(words)
             words.add_argument("--plan", metavar="NAME", nargs="+", action="extend", default=[], help="whose plans are drawn, as zarfepoch-draw does")
     return parser
 
 
-def positive(text: str) -> float:
-    """A number above 0 on the command line."""
-    number = float(text)
-    if not number > 0:
-        raise ValueError
+def seconds_of(text: str) -> float:
+    """A number of seconds on the command line."""
+    try:
+        number = float(text)
+    except ValueError:
+        number = 0.0
+    if not 0 < number <= MOST_SECONDS:
+        raise argparse.ArgumentTypeError(f"'{text}' is no number above 0, up to {MOST_SECONDS:,}")
     return number
 
 
