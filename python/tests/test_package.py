@@ -85,6 +85,13 @@ def test_reader_that_goes_away(name: str) -> None:
     assert (ended.returncode, ended.stderr) == (3, b""), f"{name}: {ended}"
 
 
+def test_mistakes_of_a_command() -> None:
+    """A mistake in a command itself, which nobody foresaw, isn't told as `none` is, by status 1."""
+    code = "from zarfepoch.command_line.ends import run; run(lambda: [][0])"
+    ended = subprocess.run([sys.executable, "-c", code], capture_output=True, text=True)
+    assert ended.returncode == 3 and "IndexError" in ended.stderr, f"a mistake: {ended}"
+
+
 @pytest.mark.parametrize("module", ("fractions", "csv"))
 def test_interrupt_while_modules_are_read(tmp_path: pathlib.Path, module: str) -> None:
     """An interrupt ends a command without a word, whichever of the modules that the package uses are read as yet."""
