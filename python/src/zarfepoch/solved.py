@@ -106,15 +106,15 @@ def command_line() -> argparse.ArgumentParser:
     return parser
 
 
-def seconds_of(text: str) -> float:
-    """A number of seconds on the command line."""
+def seconds_of(text: str) -> Optional[float]:
+    """A number of seconds on the command line, None where they are so many that they are no limit."""
     try:
         number = float(text)
     except ValueError:
         number = 0.0
-    if not 0 < number <= MOST_SECONDS:
-        raise argparse.ArgumentTypeError(f"'{text}' is no number above 0, up to {MOST_SECONDS:,}")
-    return number
+    if not number > 0:
+        raise argparse.ArgumentTypeError(f"'{text}' is no number above 0")
+    return number if number <= MOST_SECONDS else None
 
 
 def answer_of_school(program: str, timetable: Timetable, given: Namespace) -> ProgramAnswer:
