@@ -85,6 +85,18 @@ def test_reader_that_goes_away(name: str) -> None:
     assert (ended.returncode, ended.stderr) == (3, b""), f"{name}: {ended}"
 
 
+@pytest.mark.parametrize("text, told", (
+    (b"a b\na c\n", "no item is named c"), (b"", "no line names items"), (b"| a\n", "no line names items"), (b"a\n\xff\n", "no item is named \\xff"),
+    (None, "can't be read: No such file or directory")))
+def test_problems_without_a_certificate(tmp_path: pathlib.Path, text: Optional[bytes], told: str) -> None:
+    """Which file has no problem, and why, is said before its certificate is looked at."""
+    path = tmp_path / "problem.dlx"
+    if text is not None:
+        path.write_bytes(text)
+    ended = subprocess.run([sys.executable, LAUNCHER, "check-certificate", str(path), os.devnull], capture_output=True, text=True)
+    assert ended.returncode == 3 and str(path) in ended.stderr and told in ended.stderr and not ended.stdout, f"{text!r}: {ended}"
+
+
 def test_mistakes_of_a_command() -> None:
     """A mistake in a command itself, which nobody foresaw, isn't told as `none` is, by status 1."""
     code = "from zarfepoch.command_line.ends import run; run(lambda: [][0])"
