@@ -8,6 +8,7 @@ from __future__ import annotations
 
 import doctest
 import itertools
+import json
 import os
 import pathlib
 import random
@@ -95,6 +96,14 @@ def test_problems_without_a_certificate(tmp_path: pathlib.Path, text: Optional[b
         path.write_bytes(text)
     ended = subprocess.run([sys.executable, LAUNCHER, "check-certificate", str(path), os.devnull], capture_output=True, text=True)
     assert ended.returncode == 3 and str(path) in ended.stderr and told in ended.stderr and not ended.stdout, f"{text!r}: {ended}"
+
+
+@pytest.mark.parametrize("key", ("option", "primry", "secondry"))
+def test_keys_of_json(key: str) -> None:
+    """A key that says nothing is refused: the problem without it would be another one."""
+    text = json.dumps({"options": [["a"]], key: ["a", "b"]})
+    ended = subprocess.run([sys.executable, LAUNCHER, "--json", "-"], input=text, capture_output=True, text=True)
+    assert (ended.returncode, ended.stdout) == (3, "") and f'"{key}" is none of "options", "primary", "secondary"' in ended.stderr, f"{key}: {ended}"
 
 
 def test_mistakes_of_a_command() -> None:

@@ -25,7 +25,7 @@ it has no answer.
 
 With --json FILE an object with "options", and perhaps "primary", all other items where it isn't there, and "secondary"
 is read, in whose options a list of two is an item with its colour; the answer is printed as a list of places, or null.
-Items and colours are texts or numbers. FILE may be -, the standard input.
+Items and colours are texts or numbers; another key is refused. FILE may be -, the standard input.
 
 The exit status is 0 where there is an answer, 1 where there is none, 2 for a mistake on the command line or where there
 is no program, 3 where something can't be read, meant or written, and 4 where there is no answer in time; with --json 3
