@@ -95,6 +95,14 @@ NONE = ((["queens", "3"], "There is no solution."), (["langford", "5"], "each op
         (["sudoku", SUDOKU.replace("7 .", "7 2", 1)], "nothing is possible for an 8 in box 2"))
 
 
+def test_first_case(trial: Solving) -> None:
+    """The first of several ways that lead nowhere is told with its colours, and no square as though it were a cell."""
+    text = ".T.T..T. 2\n........ 2\n....TT.. 1\n......T. 2\nT....... 0\n.T...... 2\n....T..T 2\nTT...... 1\n3 0 3 1 1 2 1 1\n"
+    status, lines, errors = trial.run("tents", trial.path("tents.txt", text))
+    case = next((line for line in lines if line.startswith("  row 2, row 2 column 2 tent")), "")
+    assert status == 1 and "row 2 column 7 blank" in case and "the square of four cells that begins in row 1 column 1" in case, f"{lines} {errors}"
+
+
 @pytest.mark.parametrize("words, told", NONE, ids=[told or "a board with a hole" for _, told in NONE])
 def test_none(trial: Solving, words: list[str], told: str) -> None:
     """What is told where there is no answer, in the puzzle's words."""
