@@ -505,6 +505,15 @@ def test_named_mistakes(trial: Solving, kind: str, text: str, told: str) -> None
     assert status == 3 and told in errors, f"{kind} {text!r}: {status} {errors}"
 
 
+def test_a_jigsaw_is_no_sudoku(trial: Solving) -> None:
+    """The letters of regions aren't passed over: with boxes in their place it would be another puzzle."""
+    text = "1234\n3412\n2143\n432.\n\naabb\naabb\nccdd\nccdd\n"
+    for given in (text, text.replace("\n", "\r\n"), re.sub("(?<=[a-d])(?=[a-d])", " ", text)):
+        status, lines, errors = trial.run("sudoku", trial.path("regions.txt", given))
+        assert (status, lines) == (3, []) and "line 6: letters of regions" in errors and "zarfepoch jigsaw" in errors, f"{given!r}: {lines} {errors}"
+        assert trial.run("jigsaw", trial.path("regions.txt", given))[0] == 0, f"a jigsaw: {given!r}"
+
+
 def test_minus_signs(trial: Solving) -> None:
     """A minus is one in all its spellings."""
     for minus in ("-", "\u2212", "\u2013"):
