@@ -495,7 +495,8 @@ NAMED = (
     ("kenken", "aa\nbb\n\na=3+ b=3+ c=3+\n", "line 4: 'c=3+': there is no cage c"), ("kenken", "aa\nbb\n\na=3+ b=3?\n", "line 4: 'b=3?' isn't what a cage makes"),
     ("futoshiki", ". .\n^ x\n. .\n", "line 2: the 'x' at place 3 stands beside a '^'"), ("futoshiki", ". .\n. v\n. .\n", "line 2: the '.' at place 1 stands"),
     ("tents", "T.\n.. 1\n0 1\n", "line 1: cells and the number of their tents behind a blank are expected, and here is 'T.' alone"),
-    ("tents", "T. 1\n.. 0\n", "line 2: the last line has the numbers of tents in columns"))
+    ("tents", "T. 1\n.. 0\n", "line 2: the last line has the numbers of tents in columns"),
+    ("sudoku", "1234\n3412\n2143\n4321\n", "nothing is left to cover: all that has to be found is given"))
 
 
 @pytest.mark.parametrize("kind, text, told", NAMED, ids=[told for *_, told in NAMED])
