@@ -97,10 +97,12 @@ NONE = ((["queens", "3"], "There is no solution."), (["langford", "5"], "each op
 
 def test_first_case(trial: Solving) -> None:
     """The first of several ways that lead nowhere is told with its colours, and no square as though it were a cell."""
-    text = ".T.T..T. 2\n........ 2\n....TT.. 1\n......T. 2\nT....... 0\n.T...... 2\n....T..T 2\nTT...... 1\n3 0 3 1 1 2 1 1\n"
+    text = (".T.T..T. 2\n........ 2\n....TT.. 1\n......T. 2\nT....... 0\n.T...... 2\n....T..T 2\nTT...... 1\n"
+            "3 0 3 1 1 2 1 1\n")
     status, lines, errors = trial.run("tents", trial.path("tents.txt", text))
     case = next((line for line in lines if line.startswith("  row 2, row 2 column 2 tent")), "")
-    assert status == 1 and "row 2 column 7 blank" in case and "the square of four cells that begins in row 1 column 1" in case, f"{lines} {errors}"
+    square = "the square of four cells that begins in row 1 column 1"
+    assert status == 1 and "row 2 column 7 blank" in case and square in case, f"{lines} {errors}"
 
 
 @pytest.mark.parametrize("words, told", NONE, ids=[told or "a board with a hole" for _, told in NONE])
@@ -353,7 +355,8 @@ def test_grid_of_a_crossword(trial: Solving) -> None:
     call = [sys.executable, "-m", "zarfepoch", "crossword", "-", words, "--out", "-"]
     ended = subprocess.run(call, input="..\n#.\n", capture_output=True, text=True, env=trial.environment, timeout=300)
     assert ended.returncode == 0 and ended.stdout.startswith("<svg "), f"a picture: {ended.stderr}"
-    status, lines, _ = trial.run("crossword", trial.path("grid.txt", "..\n#.\n"), trial.path("other-words.txt", "ab cd\n"))
+    grid, others = trial.path("grid.txt", "..\n#.\n"), trial.path("other-words.txt", "ab cd\n")
+    status, lines, _ = trial.run("crossword", grid, others)
     assert status == 1 and not any("No picture" in line for line in lines), f"no picture was wanted: {lines}"
 
 
@@ -492,9 +495,11 @@ def test_wrong_numbers(trial: Solving, what: str, wanted: int, line: Optional[st
 # mistakes of one mark, each with the line and the words that name it
 NAMED = (
     ("kenken", "aa\nbb\n\na=3+ a=3+\n", "line 4: 'a=3+': the cage a makes something already"),
-    ("kenken", "aa\nbb\n\na=3+ b=3+ c=3+\n", "line 4: 'c=3+': there is no cage c"), ("kenken", "aa\nbb\n\na=3+ b=3?\n", "line 4: 'b=3?' isn't what a cage makes"),
-    ("futoshiki", ". .\n^ x\n. .\n", "line 2: the 'x' at place 3 stands beside a '^'"), ("futoshiki", ". .\n. v\n. .\n", "line 2: the '.' at place 1 stands"),
-    ("tents", "T.\n.. 1\n0 1\n", "line 1: cells and the number of their tents behind a blank are expected, and here is 'T.' alone"),
+    ("kenken", "aa\nbb\n\na=3+ b=3+ c=3+\n", "line 4: 'c=3+': there is no cage c"),
+    ("kenken", "aa\nbb\n\na=3+ b=3?\n", "line 4: 'b=3?' isn't what a cage makes"),
+    ("futoshiki", ". .\n^ x\n. .\n", "line 2: the 'x' at place 3 stands beside a '^'"),
+    ("futoshiki", ". .\n. v\n. .\n", "line 2: the '.' at place 1 stands"),
+    ("tents", "T.\n.. 1\n0 1\n", "line 1: cells and the number of their tents behind a blank are expected"),
     ("tents", "T. 1\n.. 0\n", "line 2: the last line has the numbers of tents in columns"),
     ("sudoku", "1234\n3412\n2143\n4321\n", "nothing is left to cover: all that has to be found is given"))
 
@@ -511,14 +516,16 @@ def test_a_jigsaw_is_no_sudoku(trial: Solving) -> None:
     text = "1234\n3412\n2143\n432.\n\naabb\naabb\nccdd\nccdd\n"
     for given in (text, text.replace("\n", "\r\n"), re.sub("(?<=[a-d])(?=[a-d])", " ", text)):
         status, lines, errors = trial.run("sudoku", trial.path("regions.txt", given))
-        assert (status, lines) == (3, []) and "line 6: letters of regions" in errors and "zarfepoch jigsaw" in errors, f"{given!r}: {lines} {errors}"
+        told = "line 6: letters of regions" in errors and "zarfepoch jigsaw" in errors
+        assert (status, lines) == (3, []) and told, f"{given!r}: {lines} {errors}"
         assert trial.run("jigsaw", trial.path("regions.txt", given))[0] == 0, f"a jigsaw: {given!r}"
 
 
 def test_minus_signs(trial: Solving) -> None:
     """A minus is one in all its spellings."""
     for minus in ("-", "\u2212", "\u2013"):
-        status, lines, errors = trial.run("kenken", trial.path("minus.txt", f"aa\nbb\n\na=1{minus} b=1{minus}\n"), "--count")
+        path = trial.path("minus.txt", f"aa\nbb\n\na=1{minus} b=1{minus}\n")
+        status, lines, errors = trial.run("kenken", path, "--count")
         assert status == 0 and lines == ["There are 2 solutions."], f"{minus}: {lines} {errors}"
 
 

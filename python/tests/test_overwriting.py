@@ -13,13 +13,15 @@ from built import TOP
 
 LETTERS = os.path.join(TOP, "examples", "letters.dlx")
 TABLE = "lesson,teacher,class,periods\nart,bob,5a,Mon1-2\nmaths,ann,5a,Mon1-2\n"
-TEXTS = {"table.csv": TABLE, "5a.csv": TABLE, "rules.csv": "who,away\nann,Mon2\n", "plan.csv": "lesson,class,periods\nart,5a,Mon1\nmaths,5a,Mon2\n",
+TEXTS = {"table.csv": TABLE, "5a.csv": TABLE, "rules.csv": "who,away\nann,Mon2\n",
+         "plan.csv": "lesson,class,periods\nart,5a,Mon1\nmaths,5a,Mon2\n",
          "grid.txt": "..\n#.\n", "words.txt": "ab bc\n", "answer.txt": "cover 3\nc e\na d f\nb g\n", "none.dlx": "a b\na\n", "sudoku.txt": "." * 16}
 
 
 def called(folder: pathlib.Path, words: str) -> "subprocess.CompletedProcess[str]":
     """A command in a folder of its own that has the texts."""
-    return subprocess.run([sys.executable, "-m", *words.split()], capture_output=True, text=True, cwd=folder, timeout=300)
+    call = [sys.executable, "-m", *words.split()]
+    return subprocess.run(call, capture_output=True, text=True, cwd=folder, timeout=300)
 
 
 @pytest.fixture
@@ -37,19 +39,23 @@ def bytes_of(folder: pathlib.Path) -> dict[str, bytes]:
 
 
 @pytest.mark.parametrize("words", (
-    "zarfepoch timetable table.csv --csv table.csv", "zarfepoch timetable table.csv --csv link.csv", "zarfepoch timetable table.csv --grid ./table.csv",
-    "zarfepoch timetable table.csv --rules rules.csv --out rules.csv", "zarfepoch timetable table.csv --keep plan.csv --grid plan.csv",
-    "zarfepoch timetable table.csv --problem new --csv new", "zarfepoch timetable 5a.csv --out-dir .", "zarfepoch sudoku sudoku.txt --out sudoku.txt",
+    "zarfepoch timetable table.csv --csv table.csv", "zarfepoch timetable table.csv --csv link.csv",
+    "zarfepoch timetable table.csv --grid ./table.csv",
+    "zarfepoch timetable table.csv --rules rules.csv --out rules.csv",
+    "zarfepoch timetable table.csv --keep plan.csv --grid plan.csv", "zarfepoch timetable 5a.csv --out-dir .",
+    "zarfepoch timetable table.csv --problem new --csv new", "zarfepoch sudoku sudoku.txt --out sudoku.txt",
     "zarfepoch sudoku sudoku.txt --problem sudoku.txt", "zarfepoch crossword grid.txt words.txt --out grid.txt",
     "zarfepoch crossword grid.txt words.txt --out words.txt", "zarfepoch board 3x3 --pieces words.txt --out words.txt",
     "zarfepoch.generate timetable table.csv --out table.csv", "zarfepoch.draw letters.dlx answer.txt --svg letters.dlx",
-    "zarfepoch.draw letters.dlx answer.txt --svg answer.txt", "zarfepoch.draw letters.dlx answer.txt --svg new --csv new",
+    "zarfepoch.draw letters.dlx answer.txt --svg answer.txt",
+    "zarfepoch.draw letters.dlx answer.txt --svg new --csv new",
     "zarfepoch.why_none none.dlx --svg none.dlx"))
 def test_nothing_is_lost(folder: pathlib.Path, words: str) -> None:
     """A command that would write over what it reads, or over what it writes, leaves all as it was."""
     before = bytes_of(folder)
     ended = called(folder, words)
-    assert ended.returncode == 2 and ("which is read here" in ended.stderr or "would be one file" in ended.stderr), f"{words}: {ended.stderr}"
+    told = "which is read here" in ended.stderr or "would be one file" in ended.stderr
+    assert ended.returncode == 2 and told, f"{words}: {ended.stderr}"
     assert bytes_of(folder) == before and not ended.stdout, f"{words}: a file was changed"
 
 

@@ -280,11 +280,13 @@ def test_wrong_rules(trial: Planning, what: str, status: int, line: str, rows: s
 
 
 @pytest.mark.parametrize("row, told", (
-    (";;Mon;;", "line 2: who is missing"), ("teachers;;Mon-Wed;;", "'Mon-Wed' is no range of periods, as Mon1-4, 1-30 or Mon-Fri1-6; whole days are Mon Tue Wed"),
+    (";;Mon;;", "line 2: who is missing"),
+    ("teachers;;Mon-Wed;;", "'Mon-Wed' is no range of periods"), ("teachers;;Mon-Wed;;", "whole days are Mon Tue Wed"),
     ("ann;;x-y;;", "'x-y' is no range of periods, as Mon1-4, 1-30 or Mon-Fri1-6; a period's name has no '-'")))
 def test_named_mistakes(trial: Planning, row: str, told: str) -> None:
     """A mistake in the rules is named with what may be meant."""
-    ended = trial.generate(trial.path("table.csv", TWO_LESSONS), "--rules", trial.path("rules.csv", f"who;periods;away;a_day;holes\n{row}\n"))
+    rules = trial.path("rules.csv", f"who;periods;away;a_day;holes\n{row}\n")
+    ended = trial.generate(trial.path("table.csv", TWO_LESSONS), "--rules", rules)
     assert ended.returncode == 3 and told in ended.stderr, f"{row}: {ended.stderr}"
 
 

@@ -170,7 +170,8 @@ def main() -> int:
     except OSError as why:
         said, status = f"{why.filename or 'a file'} can't be read: {why.strerror}", 3
     except KeyError as why:
-        said, status = f"{given.file} is no problem: no item is named {why.args[0].decode(errors='backslashreplace')}", 3
+        name = why.args[0].decode(errors="backslashreplace")
+        said, status = f"{given.file} is no problem: no item is named {name}", 3
     except IndexError:
         said, status = f"{given.file} is no problem: no line names items", 3
     print(said, file=sys.stderr if status == 3 else sys.stdout)

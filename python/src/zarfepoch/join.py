@@ -198,7 +198,8 @@ def write_certificate(tree: Tree, found: Split, folder: str, parts: list[Part], 
 def is_of_split(path: str, folder: str) -> bool:
     """Whether a file is one that a split wrote into its folder, or that is looked for there beside a part."""
     place, name = os.path.split(real(path))
-    return place == os.path.realpath(folder) and re.fullmatch(rf"{re.escape(WHOLE)}|{re.escape(LIST)}|part-\d+\.(dlx|answer|certificate)", name) is not None
+    is_named = name in (WHOLE, LIST) or re.fullmatch(r"part-\d+\.(dlx|answer|certificate)", name) is not None
+    return is_named and place == os.path.realpath(folder)
 
 
 def main() -> int:

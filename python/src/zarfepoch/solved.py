@@ -90,7 +90,8 @@ def command_line() -> argparse.ArgumentParser:
     *tools, last = (name.replace("zarfepoch-", "") for name in COMMANDS if name != "zarfepoch")
     parser = parser_of((__doc__ or "").replace("%KINDS%", textwrap.fill(kinds_listed(), 130)).replace("%TOOLS%", f"{', '.join(tools)} and {last}"))
     parser.add_argument("--json", metavar="FILE", help="a problem in JSON, in place of a kind")
-    parser.add_argument("--seconds", metavar="N", type=seconds_of, help="how long a search may take (no limit where it isn't given)")
+    parser.add_argument("--seconds", metavar="N", type=seconds_of,
+                        help="how long a search may take (no limit where it isn't given)")
     for words in kinds_of(parser):
         words.add_argument("--out", metavar="FILE.svg", help="where the picture is written, - for the standard output")
         if not words.prog.endswith("timetable"):
@@ -99,7 +100,8 @@ def command_line() -> argparse.ArgumentParser:
             which.add_argument("--all", action="store_true", help="draw each solution, in the terminal")
             which.add_argument("--count", action="store_true", help="say how many solutions there are, and draw none")
         words.add_argument("--problem", metavar="FILE.dlx", help="where the problem is written that the program gets")
-        words.add_argument("--seconds", metavar="N", type=seconds_of, default=argparse.SUPPRESS, help="how long a search may take")
+        words.add_argument("--seconds", metavar="N", type=seconds_of, default=argparse.SUPPRESS,
+                           help="how long a search may take")
         if words.prog.endswith("timetable"):
             add_tables(words)
             words.add_argument("--plan", metavar="NAME", nargs="+", action="extend", default=[], help="whose plans are drawn, as zarfepoch-draw does")
@@ -259,8 +261,10 @@ def solved(program: str, puzzle: Puzzle, given: Namespace) -> int:
         return 1
     answer = read_audited(found.text, problem)
     picture = picture_of(problem, [problem.options[place] for _, place in answer.chosen], False)
-    # (the plan that is kept is read before another one takes its place)
-    kept = kept_words(puzzle, found.text, read_plan(given.keep, puzzle.school)) if isinstance(puzzle, Timetable) and puzzle.school and given.keep else ""
+    kept = ""
+    if isinstance(puzzle, Timetable) and puzzle.school and given.keep:
+        # (the plan that is kept is read before another one takes its place)
+        kept = kept_words(puzzle, found.text, read_plan(given.keep, puzzle.school))
     draw(given, with_plans(picture, getattr(given, "plan", [])), puzzle.comments[0])
     if kept:
         complain(kept)

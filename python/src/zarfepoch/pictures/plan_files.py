@@ -56,7 +56,8 @@ def write_each(folder: str, picture: Kind, title: str, read: set[str]) -> None:
     plans = [timetable.plan(who) for who in wanted]
     fills = timetable.fills(plans)
     paths = [os.path.join(folder, name) for name in file_names(map(timetable.full, wanted))]
-    over = next((path + ending for path in paths for ending in (".svg", ".csv") if os.path.realpath(path + ending) in read), None)
+    files = (path + ending for path in paths for ending in (".svg", ".csv"))
+    over = next((file for file in files if os.path.realpath(file) in read), None)
     if over:
         stop(f"--out-dir would write over {over}, which is read here: another folder is wanted")
     try:

@@ -325,7 +325,8 @@ def want_no_regions(path: str, size: int) -> None:
     for block in blocks_of(path)[1:]:
         rows = [re.sub(r"[\s,;]", "", line) for _, line in block]
         if len(rows) == size and all(row.isalpha() and len(row) == size for row in rows):
-            refuse(path, block[0][0], "letters of regions stand behind the digits: zarfepoch jigsaw reads them, and a sudoku has boxes")
+            refuse(path, block[0][0], "letters of regions stand behind the digits: zarfepoch jigsaw reads them, and a "
+                   "sudoku has boxes")
 
 
 def regions_by_boxes(path: str, size: int, box: Cell | None) -> list[list[int]] | None:

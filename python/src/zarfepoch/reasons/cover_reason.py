@@ -189,8 +189,9 @@ def names_line(names: Iterable[bytes], named: Named) -> str:
 
 def told_words(option: Option, named: Named) -> list[str]:
     """What an option's items are called, each with its colour."""
+    between = ":" if named is shown else " "
     colours = (word.partition(b":")[2] for word in option.words)
-    return [named(name) + ((":" if named is shown else " ") + shown(colour) if colour else "") for name, colour in zip(option.names, colours)]
+    return [named(name) + (between + shown(colour) if colour else "") for name, colour in zip(option.names, colours)]
 
 
 def case_words(reason: Reason, problem: Problem, named: Named) -> Iterator[str]:

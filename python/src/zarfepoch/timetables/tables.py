@@ -136,8 +136,8 @@ def number_in(path: str, line: int, row: dict[str, str], column: str, least: int
 
 
 def alternatives(cell: str) -> list[str]:
-    """The parts of a cell of which a lesson has one, with `or` between them; a part is empty where nothing stands beside
-    an `or`."""
+    """The parts of a cell of which a lesson has one, with `or` between them; a part is empty where nothing stands
+    beside an `or`."""
     return [part.strip() for part in re.split(r"\s(?:or|oder)(?=\s|$)|^(?:or|oder)(?=\s)", cell)]
 
 
