@@ -15,7 +15,8 @@ LETTERS = os.path.join(TOP, "examples", "letters.dlx")
 TABLE = "lesson,teacher,class,periods\nart,bob,5a,Mon1-2\nmaths,ann,5a,Mon1-2\n"
 TEXTS = {"table.csv": TABLE, "5a.csv": TABLE, "rules.csv": "who,away\nann,Mon2\n",
          "plan.csv": "lesson,class,periods\nart,5a,Mon1\nmaths,5a,Mon2\n",
-         "grid.txt": "..\n#.\n", "words.txt": "ab bc\n", "answer.txt": "cover 3\nc e\na d f\nb g\n", "none.dlx": "a b\na\n", "sudoku.txt": "." * 16}
+         "grid.txt": "..\n#.\n", "words.txt": "ab bc\n", "answer.txt": "cover 3\nc e\na d f\nb g\n",
+         "none.dlx": "a b\na\n", "sudoku.txt": "." * 16}
 
 
 def called(folder: pathlib.Path, words: str) -> "subprocess.CompletedProcess[str]":
