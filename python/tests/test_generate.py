@@ -446,6 +446,7 @@ def test_no_answers(trial: Generating) -> None:
                                ("a cover of its own problem, cut off", f"cover 4\na {other}\nb\nother1 other-1:barred\n", 3)):
         ended = trial.python("another", file, trial.path("an answer", text))
         assert ended.returncode == status and bool(ended.stdout) == (status == 0), f"{what}: {ended.stderr}"
+        assert (f"explain {file}" in ended.stderr) == (status == 3 and what != "none"), f"{what}: {ended.stderr}"
     names = [f"i{k}" for k in range(900)]
     large = "\n".join([" ".join(names), *[" ".join(names)] * 222]) + "\n"
     ended = trial.python("another", trial.path("large.dlx", large), trial.path("answer", f"cover 1\n{' '.join(names)}\n"))

@@ -95,6 +95,16 @@ NONE = ((["queens", "3"], "There is no solution."), (["langford", "5"], "each op
         (["sudoku", SUDOKU.replace("7 .", "7 2", 1)], "nothing is possible for an 8 in box 2"))
 
 
+def test_first_case(trial: Solving) -> None:
+    """The first of several ways that lead nowhere is told with its colours, and no square as though it were a cell."""
+    text = (".T.T..T. 2\n........ 2\n....TT.. 1\n......T. 2\nT....... 0\n.T...... 2\n....T..T 2\nTT...... 1\n"
+            "3 0 3 1 1 2 1 1\n")
+    status, lines, errors = trial.run("tents", trial.path("tents.txt", text))
+    case = next((line for line in lines if line.startswith("  row 2, row 2 column 2 tent")), "")
+    square = "the square of four cells that begins in row 1 column 1"
+    assert status == 1 and "row 2 column 7 blank" in case and square in case, f"{lines} {errors}"
+
+
 @pytest.mark.parametrize("words, told", NONE, ids=[told or "a board with a hole" for _, told in NONE])
 def test_none(trial: Solving, words: list[str], told: str) -> None:
     """What is told where there is no answer, in the puzzle's words."""
@@ -329,6 +339,27 @@ def test_plan_files(trial: Solving) -> None:
         assert name in "".join(ElementTree.parse(os.path.join(folder, f"{name}.svg")).getroot().itertext()), f"the picture of {name}"
 
 
+def test_plan_in_its_own_place(trial: Solving) -> None:
+    """How many lessons stay is said of the plan that was there, also where the new one is written over it."""
+    table = trial.path("moved.csv", "lesson,teacher,class,periods\nart,bob,5a,Mon2\nmaths,ann,5a,Mon1-2\n")
+    plan = trial.path("kept.csv", "lesson,class,periods\nart,5a,Mon1\nmaths,5a,Mon2\n")
+    status, _, errors = trial.run("timetable", table, "--keep", plan, "--csv", plan)
+    assert status == 0 and "0 of 2 times of lessons stay" in errors, f"the old plan: {errors}"
+    with open(plan, encoding="utf-8") as written:
+        assert "art,bob,5a,-,Mon2,1" in written.read(), "the new plan"
+
+
+def test_grid_of_a_crossword(trial: Solving) -> None:
+    """The grid of a crossword is no table that is written: it may come from the standard input beside a picture."""
+    words = trial.path("few-words.txt", "ab bc\n")
+    call = [sys.executable, "-m", "zarfepoch", "crossword", "-", words, "--out", "-"]
+    ended = subprocess.run(call, input="..\n#.\n", capture_output=True, text=True, env=trial.environment, timeout=300)
+    assert ended.returncode == 0 and ended.stdout.startswith("<svg "), f"a picture: {ended.stderr}"
+    grid, others = trial.path("grid.txt", "..\n#.\n"), trial.path("other-words.txt", "ab cd\n")
+    status, lines, _ = trial.run("crossword", grid, others)
+    assert status == 1 and not any("No picture" in line for line in lines), f"no picture was wanted: {lines}"
+
+
 def test_odd_plans(trial: Solving) -> None:
     """Plans of names that can't be those of files, plans without days, and what can't be written."""
     odd = trial.path("odd.csv", "lesson;class;teacher;periods\nart;5/a;.;1-3\nmusic;5_a;bob;1-3\nsport;..;cy;1-3\n")
@@ -375,6 +406,22 @@ def test_written(trial: Solving) -> None:
     for program, wanted in (("/dev/null", 2), ("/bin/false", 3), ("/bin/true", 3)):
         status, _, errors = trial.run("queens", "4", program=program)
         assert status == wanted and "Traceback" not in errors, f"the program {program}: {status} {errors}"
+
+
+@pytest.mark.parametrize("text", ("nan", "0", "-1", "x", ""))
+def test_seconds_that_are_none(trial: Solving, text: str) -> None:
+    """A time that is none is a mistake on the command line, and says what is expected."""
+    for words in (["queens", "4", f"--seconds={text}"], ["--json", os.devnull, f"--seconds={text}"]):
+        status, lines, errors = trial.run(*words)
+        assert (status, lines) == (2, []) and f"'{text}' is no number above 0" in errors, f"{words}: {status} {errors}"
+
+
+@pytest.mark.parametrize("text", ("inf", "1e400", "1e9", "1000001", "1e6"))
+def test_seconds_without_end(trial: Solving, text: str) -> None:
+    """A time beyond what the program takes is no limit."""
+    for words in (["queens", "4"], ["queens", "4", "--count"], ["queens", "3"]):
+        status, _, errors = trial.run(*words, "--seconds", text)
+        assert (status, errors) == (int(words[1] == "3"), ""), f"{words}: {status} {errors}"
 
 
 def test_spellings(trial: Solving) -> None:
@@ -443,6 +490,43 @@ def test_wrong_numbers(trial: Solving, what: str, wanted: int, line: Optional[st
     words = [kind, trial.path("wrong.txt", text)] if kind != "hyper" else ["sudoku", trial.path("wrong.txt", text), "--hyper"]
     status, _, errors = trial.run(*words)
     assert status == wanted and (line is None or f"line {line}" in errors) and "Traceback" not in errors, f"{what}: {status} {errors}"
+
+
+# mistakes of one mark, each with the line and the words that name it
+NAMED = (
+    ("kenken", "aa\nbb\n\na=3+ a=3+\n", "line 4: 'a=3+': the cage a makes something already"),
+    ("kenken", "aa\nbb\n\na=3+ b=3+ c=3+\n", "line 4: 'c=3+': there is no cage c"),
+    ("kenken", "aa\nbb\n\na=3+ b=3?\n", "line 4: 'b=3?' isn't what a cage makes"),
+    ("futoshiki", ". .\n^ x\n. .\n", "line 2: the 'x' at place 3 stands beside a '^'"),
+    ("futoshiki", ". .\n. v\n. .\n", "line 2: the '.' at place 1 stands"),
+    ("tents", "T.\n.. 1\n0 1\n", "line 1: cells and the number of their tents behind a blank are expected"),
+    ("tents", "T. 1\n.. 0\n", "line 2: the last line has the numbers of tents in columns"),
+    ("sudoku", "1234\n3412\n2143\n4321\n", "nothing is left to cover: all that has to be found is given"))
+
+
+@pytest.mark.parametrize("kind, text, told", NAMED, ids=[told for *_, told in NAMED])
+def test_named_mistakes(trial: Solving, kind: str, text: str, told: str) -> None:
+    """A mistake is named by the mark that is wrong."""
+    status, _, errors = trial.run(kind, trial.path("mistake.txt", text))
+    assert status == 3 and told in errors, f"{kind} {text!r}: {status} {errors}"
+
+
+def test_a_jigsaw_is_no_sudoku(trial: Solving) -> None:
+    """The letters of regions aren't passed over: with boxes in their place it would be another puzzle."""
+    text = "1234\n3412\n2143\n432.\n\naabb\naabb\nccdd\nccdd\n"
+    for given in (text, text.replace("\n", "\r\n"), re.sub("(?<=[a-d])(?=[a-d])", " ", text)):
+        status, lines, errors = trial.run("sudoku", trial.path("regions.txt", given))
+        told = "line 6: letters of regions" in errors and "zarfepoch jigsaw" in errors
+        assert (status, lines) == (3, []) and told, f"{given!r}: {lines} {errors}"
+        assert trial.run("jigsaw", trial.path("regions.txt", given))[0] == 0, f"a jigsaw: {given!r}"
+
+
+def test_minus_signs(trial: Solving) -> None:
+    """A minus is one in all its spellings."""
+    for minus in ("-", "\u2212", "\u2013"):
+        path = trial.path("minus.txt", f"aa\nbb\n\na=1{minus} b=1{minus}\n")
+        status, lines, errors = trial.run("kenken", path, "--count")
+        assert status == 0 and lines == ["There are 2 solutions."], f"{minus}: {lines} {errors}"
 
 
 def test_windows_and_colours(trial: Solving) -> None:

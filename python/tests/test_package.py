@@ -8,6 +8,7 @@ from __future__ import annotations
 
 import doctest
 import itertools
+import json
 import os
 import pathlib
 import random
@@ -83,6 +84,36 @@ def test_reader_that_goes_away(name: str) -> None:
     ended = subprocess.run([sys.executable, LAUNCHER, *name.split("-", 1)[1:], "--help"], stdout=writer, stderr=subprocess.PIPE)
     os.close(writer)
     assert (ended.returncode, ended.stderr) == (3, b""), f"{name}: {ended}"
+
+
+@pytest.mark.parametrize("text, told", (
+    (b"a b\na c\n", "no item is named c"), (b"", "no line names items"), (b"| a\n", "no line names items"),
+    (b"a\n\xff\n", "no item is named \\xff"), (None, "can't be read: No such file or directory")))
+def test_problems_without_a_certificate(tmp_path: pathlib.Path, text: Optional[bytes], told: str) -> None:
+    """Which file has no problem, and why, is said before its certificate is looked at."""
+    path = tmp_path / "problem.dlx"
+    if text is not None:
+        path.write_bytes(text)
+    call = [sys.executable, LAUNCHER, "check-certificate", str(path), os.devnull]
+    ended = subprocess.run(call, capture_output=True, text=True)
+    is_told = str(path) in ended.stderr and told in ended.stderr
+    assert (ended.returncode, ended.stdout) == (3, "") and is_told, f"{text!r}: {ended}"
+
+
+@pytest.mark.parametrize("key", ("option", "primry", "secondry"))
+def test_keys_of_json(key: str) -> None:
+    """A key that says nothing is refused: the problem without it would be another one."""
+    text = json.dumps({"options": [["a"]], key: ["a", "b"]})
+    ended = subprocess.run([sys.executable, LAUNCHER, "--json", "-"], input=text, capture_output=True, text=True)
+    told = f'"{key}" is none of "options", "primary", "secondary"'
+    assert (ended.returncode, ended.stdout) == (3, "") and told in ended.stderr, f"{key}: {ended}"
+
+
+def test_mistakes_of_a_command() -> None:
+    """A mistake in a command itself, which nobody foresaw, isn't told as `none` is, by status 1."""
+    code = "from zarfepoch.command_line.ends import run; run(lambda: [][0])"
+    ended = subprocess.run([sys.executable, "-c", code], capture_output=True, text=True)
+    assert ended.returncode == 3 and "IndexError" in ended.stderr, f"a mistake: {ended}"
 
 
 @pytest.mark.parametrize("module", ("fractions", "csv"))

@@ -263,6 +263,8 @@ WRONG_ROWS = (
     ("after a lesson that isn't there", 3, "a;ann;5a;;;1;;;;;z"), ("after itself", 3, "a;ann;5a;;;1;;;;;a"),
     ("after a lesson that is given more often", 3, "a;ann;5a;;;1;;;;;c"), ("one of one teacher", 3, "a;ann or ann;5a;;;1;;;;;"),
     ("one of nobody", 3, "a;ann or -;5a;;;1;;;;;"), ("one of two classes", 3, "a;ann;5a or 5b;;;1;;;;;"), ("a room twice", 3, "a;ann;5a;r+r;;1;;;;;"),
+    ("nobody beside an or", 3, "a;ann or;5a;;;1;;;;;"), ("nobody in front of an or", 3, "a;or ann;5a;;;1;;;;;"),
+    ("no room beside an or", 3, "a;ann;5a;r or;;1;;;;;"), ("a lesson behind itself", 3, "a;ann;5a;;;1;;;;;a"),
     ("a room missing beside a plus", 3, "a;ann;5a;r+;;1;;;;;"), ("days that nobody knows", 3, "a;ann;5a;;a-b1-2;1;;;;;"),
     ("a range from nowhere", 3, "a;ann;5a;;-1-3;1;;;;;"), ("a week's range with periods", 3, "a;ann;5a;;Mon1-Fri6;1;;;;;"))
 
@@ -275,6 +277,17 @@ def test_wrong_rules(trial: Planning, what: str, status: int, line: str, rows: s
     """Rules that can't be meant, with their lines, and what can't be."""
     ended = trial.generate(trial.path("table.csv", TWO_LESSONS), "--rules", trial.path("rules.csv", f"who;periods;away;a_day;holes\n{rows}\n"))
     assert ended.returncode == status and f"line {line}" in ended.stderr.replace("lines", "line"), f"{what}: {ended.returncode} {ended.stderr}"
+
+
+@pytest.mark.parametrize("row, told", (
+    (";;Mon;;", "line 2: who is missing"),
+    ("teachers;;Mon-Wed;;", "'Mon-Wed' is no range of periods"), ("teachers;;Mon-Wed;;", "whole days are Mon Tue Wed"),
+    ("ann;;x-y;;", "'x-y' is no range of periods, as Mon1-4, 1-30 or Mon-Fri1-6; a period's name has no '-'")))
+def test_named_mistakes(trial: Planning, row: str, told: str) -> None:
+    """A mistake in the rules is named with what may be meant."""
+    rules = trial.path("rules.csv", f"who;periods;away;a_day;holes\n{row}\n")
+    ended = trial.generate(trial.path("table.csv", TWO_LESSONS), "--rules", rules)
+    assert ended.returncode == 3 and told in ended.stderr, f"{row}: {ended.stderr}"
 
 
 @pytest.mark.parametrize("what, status, row", WRONG_ROWS, ids=[what for what, *_ in WRONG_ROWS])

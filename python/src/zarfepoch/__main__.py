@@ -15,6 +15,10 @@ from .files.whole_files import Unreadable, read_bytes
 from .solved import command_line, kind_missing, solve_kind
 
 
+# what an object in JSON may have
+KEYS = ("options", "primary", "secondary")
+
+
 def is_name(value: object) -> bool:
     """Whether a value of JSON may be an item or a colour; true and false would be equal to 1 and 0 here, and null to no
     colour."""
@@ -36,6 +40,9 @@ def solve_json(text: bytes, seconds: Optional[float] = None) -> Optional[list[in
         given = json.loads(text)
     except ValueError as why:
         raise ValueError(f"this is no JSON: {why}") from None
+    strange = [key for key in given if key not in KEYS] if isinstance(given, dict) else []
+    if strange:
+        raise ValueError(f"{json.dumps(strange[0])} is none of {', '.join(map(json.dumps, KEYS))}")
     parts: dict[str, Any] = {"secondary": [], "primary": None, **given} if isinstance(given, dict) else {}
     options, primary, secondary = (parts.get(what) for what in ("options", "primary", "secondary"))
     if not (isinstance(options, list) and isinstance(primary, (list, type(None))) and isinstance(secondary, list)):

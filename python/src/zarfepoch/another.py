@@ -33,13 +33,14 @@ def without_others(text: bytes, other: bytes) -> bytes:
     return b"".join(b" ".join(words) + b"\n" for words in [head, *rest])
 
 
-def chosen_options(problem: Problem, path: str, other: bytes) -> list[Words]:
+def chosen_options(problem: Problem, file: str, path: str, other: bytes) -> list[Words]:
     """The words of the options in an answer."""
     answer = read_audited(without_others(read_bytes(path), other), problem)
     if answer.faults or answer.kind == "none":
-        stop(f"{path} has no cover: {refusal(answer.faults) if answer.faults else 'none'}", 3)
+        explained = f"; zarfepoch-explain {file} {path} explains it"
+        stop(f"{path} has no cover: {refusal(answer.faults) + explained if answer.faults else 'none'}", 3)
     if answer.uncovered(problem) or answer.covered_twice(problem):
-        stop(f"{path} is no exact cover of the file; zarfepoch-explain tells why", 3)
+        stop(f"{path} is no exact cover of the file; zarfepoch-explain {file} {path} tells why", 3)
     return list(dict.fromkeys(problem.options[place].words for _, place in answer.chosen))
 
 
@@ -51,9 +52,9 @@ def main() -> int:
     try:
         problem = read_problem(read_bytes(given.file))
         if problem.faults:
-            stop(f"{given.file} is refused: {refusal(problem.faults)}", 3)
+            stop(f"{given.file} is refused: {refusal(problem.faults)}; zarfepoch-explain {given.file} explains it", 3)
         other = free_name(problem, b"other")
-        answers = [chosen_options(problem, path, other) for path in given.answers]
+        answers = [chosen_options(problem, given.file, path, other) for path in given.answers]
     except Unreadable as why:
         stop(why, 3)
     text, too_large = others_of(problem, answers, other)

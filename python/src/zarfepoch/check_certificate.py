@@ -167,8 +167,13 @@ def main() -> int:
             checker.check()
     except Wrong as why:
         said, status = f"wrong: line {checker.read}: expected {why}", 1
-    except (OSError, KeyError, IndexError) as why:
-        said, status = f"a file can't be read: {why}", 3
+    except OSError as why:
+        said, status = f"{why.filename or 'a file'} can't be read: {why.strerror}", 3
+    except KeyError as why:
+        name = why.args[0].decode(errors="backslashreplace")
+        said, status = f"{given.file} is no problem: no item is named {name}", 3
+    except IndexError:
+        said, status = f"{given.file} is no problem: no line names items", 3
     print(said, file=sys.stderr if status == 3 else sys.stdout)
     return status
 

@@ -38,6 +38,7 @@ from argparse import Namespace
 
 from .command_line.ends import complain, run, stop
 from .command_line.words import parser_of
+from .command_line.written import keep_what_is_read
 from .files.cover_files import Answer, Problem, read_audited, read_problem, refusal, shown
 from .files.whole_files import Unreadable, read_bytes, write_out
 from .pictures.kinds import picture_of
@@ -93,6 +94,7 @@ def main() -> int:
         parser.error("- is the standard input, which can be read once")
     if [given.svg, given.csv, given.grid].count("-") > 1:
         parser.error("- is the standard output, which takes one of picture and tables")
+    keep_what_is_read(given)
     problem, title, answer = read_files(given)
     chosen = [problem.options[place] for _, place in answer.chosen]
     picture = with_plans(picture_of(problem, chosen, answer.kind == "none"), given.plan)

@@ -26,6 +26,7 @@ from typing import Optional
 
 from .command_line.ends import complain, run, stop
 from .command_line.words import parser_of
+from .command_line.written import keep_what_is_read
 from .files.whole_files import put_bytes
 from .puzzles.examples import examples, FROM_TEXTS
 from .puzzles.kinds import kinds_help, kinds_of, problems_of
@@ -81,6 +82,7 @@ def write_examples(folder: str) -> None:
 def main() -> int:
     given = command_line().parse_args()
     if given.kind:
+        keep_what_is_read(given)
         found = problems_of(given, sys.argv[1:])
         if len(found) == 1:
             write(found[0], given.out or None)

@@ -30,6 +30,7 @@ from typing import NamedTuple, Optional
 
 from .command_line.ends import complain, run, stop
 from .command_line.words import parser_of
+from .command_line.written import real
 from .files.cover_files import Answer, lines_of, refusal, shown
 from .files.whole_files import Unreadable, read_bytes
 from .search.certified_parts import NotRight, body_of, join_certificates, kind_of
@@ -194,12 +195,21 @@ def write_certificate(tree: Tree, found: Split, folder: str, parts: list[Part], 
         stop(f"{out} can't be written: {why.strerror}", 3)
 
 
+def is_of_split(path: str, folder: str) -> bool:
+    """Whether a file is one that a split wrote into its folder, or that is looked for there beside a part."""
+    place, name = os.path.split(real(path))
+    is_named = name in (WHOLE, LIST) or re.fullmatch(r"part-\d+\.(dlx|answer|certificate)", name) is not None
+    return is_named and place == os.path.realpath(folder)
+
+
 def main() -> int:
     words = parser_of(__doc__)
     words.add_argument("folder", metavar="FOLDER", help="the folder that zarfepoch-split made")
     words.add_argument("--left", action="store_true", help="write the paths of the parts that are still to be searched")
     words.add_argument("--certificate", metavar="OUT", help="count a part's none only by its certificate, and join these")
     given = words.parse_args()
+    if given.certificate and is_of_split(given.certificate, given.folder):
+        stop(f"--certificate would write over {given.certificate}, which is read here: another file is wanted")
     _, tree = read_tree(path_in(given.folder, WHOLE))
     found = split_in(tree, given.folder)
     cover, parts = outcome(tree, found, given.folder, given.certificate is not None)

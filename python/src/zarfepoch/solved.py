@@ -25,7 +25,7 @@ it has no answer.
 
 With --json FILE an object with "options", and perhaps "primary", all other items where it isn't there, and "secondary"
 is read, in whose options a list of two is an item with its colour; the answer is printed as a list of places, or null.
-Items and colours are texts or numbers. FILE may be -, the standard input.
+Items and colours are texts or numbers; another key is refused. FILE may be -, the standard input.
 
 The exit status is 0 where there is an answer, 1 where there is none, 2 for a mistake on the command line or where there
 is no program, 3 where something can't be read, meant or written, and 4 where there is no answer in time; with --json 3
@@ -48,6 +48,7 @@ from typing import Optional
 
 from .command_line.ends import complain, stop
 from .command_line.words import as_called, parser_of
+from .command_line.written import keep_what_is_read
 from .commands import COMMANDS
 from .errors import NoProgram, OutOfMemory, ProgramError, TimeIsUp
 from .files.cover_files import Problem, read_audited, read_problem
@@ -77,6 +78,8 @@ from .timetables.weeks import in_order
 Time = tuple[tuple[str, frozenset[str]], str]
 
 NO_ANSWER = 4
+# the program takes a limit of at most a million seconds
+MOST_SECONDS = 1_000_000
 # how long another answer is looked for where no time is told, and a reason at most
 OTHER_SECONDS = 10.0
 # every so many seconds it is said that a search goes on, and so many lessons that moved are told
@@ -87,7 +90,8 @@ def command_line() -> argparse.ArgumentParser:
     *tools, last = (name.replace("zarfepoch-", "") for name in COMMANDS if name != "zarfepoch")
     parser = parser_of((__doc__ or "").replace("%KINDS%", textwrap.fill(kinds_listed(), 130)).replace("%TOOLS%", f"{', '.join(tools)} and {last}"))
     parser.add_argument("--json", metavar="FILE", help="a problem in JSON, in place of a kind")
-    parser.add_argument("--seconds", metavar="N", type=positive, help="how long a search may take (no limit where it isn't given)")
+    parser.add_argument("--seconds", metavar="N", type=seconds_of,
+                        help="how long a search may take (no limit where it isn't given)")
     for words in kinds_of(parser):
         words.add_argument("--out", metavar="FILE.svg", help="where the picture is written, - for the standard output")
         if not words.prog.endswith("timetable"):
@@ -96,19 +100,23 @@ def command_line() -> argparse.ArgumentParser:
             which.add_argument("--all", action="store_true", help="draw each solution, in the terminal")
             which.add_argument("--count", action="store_true", help="say how many solutions there are, and draw none")
         words.add_argument("--problem", metavar="FILE.dlx", help="where the problem is written that the program gets")
-        words.add_argument("--seconds", metavar="N", type=positive, default=argparse.SUPPRESS, help="how long a search may take")
+        words.add_argument("--seconds", metavar="N", type=seconds_of, default=argparse.SUPPRESS,
+                           help="how long a search may take")
         if words.prog.endswith("timetable"):
             add_tables(words)
             words.add_argument("--plan", metavar="NAME", nargs="+", action="extend", default=[], help="whose plans are drawn, as zarfepoch-draw does")
     return parser
 
 
-def positive(text: str) -> float:
-    """A number above 0 on the command line."""
-    number = float(text)
+def seconds_of(text: str) -> Optional[float]:
+    """A number of seconds on the command line, None where they are so many that they are no limit."""
+    try:
+        number = float(text)
+    except ValueError:
+        number = 0.0
     if not number > 0:
-        raise ValueError
-    return number
+        raise argparse.ArgumentTypeError(f"'{text}' is no number above 0")
+    return number if number <= MOST_SECONDS else None
 
 
 def answer_of_school(program: str, timetable: Timetable, given: Namespace) -> ProgramAnswer:
@@ -253,9 +261,13 @@ def solved(program: str, puzzle: Puzzle, given: Namespace) -> int:
         return 1
     answer = read_audited(found.text, problem)
     picture = picture_of(problem, [problem.options[place] for _, place in answer.chosen], False)
-    draw(given, with_plans(picture, getattr(given, "plan", [])), puzzle.comments[0])
+    kept = ""
     if isinstance(puzzle, Timetable) and puzzle.school and given.keep:
-        complain(kept_words(puzzle, found.text, read_plan(given.keep, puzzle.school)))
+        # (the plan that is kept is read before another one takes its place)
+        kept = kept_words(puzzle, found.text, read_plan(given.keep, puzzle.school))
+    draw(given, with_plans(picture, getattr(given, "plan", [])), puzzle.comments[0])
+    if kept:
+        complain(kept)
     if not isinstance(puzzle, Timetable) and not given.one and given.out != "-":
         sys.stdout.flush()
         print(only_words(program, problem, found.text, given.seconds))
@@ -329,6 +341,7 @@ def solve_kind(given: Namespace, words: list[str]) -> int:
     """Answers what a kind and its words ask for; the exit status."""
     if [getattr(given, name, None) for name in ("out", "csv", "grid")].count("-") > 1:
         stop("- is the standard output, which takes one of picture and tables")
+    keep_what_is_read(given)
     try:
         program = find_program()
     except NoProgram as why:
@@ -344,6 +357,7 @@ def solve_kind(given: Namespace, words: list[str]) -> int:
     statuses = []
     for number, puzzle in enumerate(found, 1):
         own = in_parts(given, number, len(found))
+        keep_what_is_read(own)
         if own.problem:
             try:
                 put(own.problem, puzzle.text().decode())

@@ -30,6 +30,7 @@ from typing import Callable, Optional
 
 from .command_line.ends import complain, run, stop
 from .command_line.words import parser_of
+from .command_line.written import keep_what_is_read
 from .files.cover_files import Problem, read_problem, refusal, shown
 from .files.fault_words import first_few, plural, quoted
 from .files.full_names import told_lines
@@ -176,6 +177,7 @@ def main() -> int:
     given = words.parse_args()
     if not 1 <= given.fuel < 1 << 64:
         words.error("--fuel takes 1 to 18446744073709551615")
+    keep_what_is_read(given)
     text, problem = read(given.file)
     if given.program is None or not is_program(given.program):
         stop(missing_program(given.program))

@@ -5,6 +5,7 @@ import io
 import os
 import signal
 import sys
+import traceback
 from typing import Callable, NoReturn, Union
 
 from .words import as_called
@@ -36,8 +37,8 @@ def run(main: Callable[[], Status]) -> NoReturn:
     """Runs a script's main function to its exit status.
 
     A reader that goes away, as `head` does, ends it quietly, with status 3. Where the standard output is closed or
-    takes no more, or memory runs out, standard error has a line, too. A signal that ends it also ends the program that
-    it runs; an interrupt is told nowhere.
+    takes no more, or memory runs out, standard error has a line, too. A mistake of the script's own is never status 1,
+    which would be an answer. A signal that ends it also ends the program that it runs; an interrupt is told nowhere.
     """
     if signal.getsignal(signal.SIGINT) is signal.SIG_DFL:
         # (what starts a command leaves interrupts to the system until its modules are read)
@@ -63,4 +64,8 @@ def run(main: Callable[[], Status]) -> NoReturn:
         status = 3
         if not isinstance(why, BrokenPipeError):
             complain(f"the standard output can't be written: {why.strerror}")
+    except Exception:
+        # (the interpreter's own status is 1, that of what has no solution)
+        traceback.print_exc()
+        status = 3
     sys.exit(status)

@@ -130,7 +130,8 @@ class Stars(Kind):
             max(known_cell(name)) for colours in self.option_colours for name in colours) < LARGEST
 
     def item_words(self, item: str) -> str:
-        return line_words(item, self.offset) or super().item_words(item.lstrip("s"))
+        square = "the square of four cells that begins in " if item.startswith("s") else ""
+        return line_words(item, self.offset) or square + super().item_words(item.removeprefix("s"))
 
     def regions(self) -> dict[Cell, str]:
         """The region of each cell, by its options."""

@@ -76,7 +76,8 @@ class Tents(Grid):
         if item.startswith("tree"):
             cell = cell_of(item[4:])
             return f"the tree in {cell_words(cell)}" if cell else item
-        return line_words(item) or super().item_words(item.lstrip("us"))
+        square = "the square of four cells that begins in " if item.startswith("s") else ""
+        return line_words(item) or square + super().item_words(item.lstrip("us"))
 
     def tents(self) -> set[Cell]:
         return {known_cell(name) for colours in self.chosen_colours for name, colour in colours.items() if colour == "tent"}

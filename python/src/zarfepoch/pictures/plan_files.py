@@ -8,6 +8,7 @@ from argparse import ArgumentParser, Namespace
 from collections.abc import Iterable
 
 from ..command_line.ends import stop
+from ..command_line.written import read_by
 from ..files.whole_files import put, write_out
 from .base import Kind
 from .svg_paper import Paper
@@ -47,20 +48,25 @@ def file_names(names: Iterable[str]) -> list[str]:
     return list(found.values())
 
 
-def write_each(folder: str, picture: Kind, title: str) -> None:
-    """Writes a picture and a table for each of whom a plan is wanted, or for all; a lesson has one colour in all of
-    them."""
+def write_each(folder: str, picture: Kind, title: str, read: set[str]) -> None:
+    """Writes a picture and a table for each of whom a plan is wanted, or for all, over none of the files that are
+    read; a lesson has one colour in all of them."""
     timetable = timetable_of(picture, "--out-dir")
     wanted = timetable.wanted() or timetable.called("all")
     plans = [timetable.plan(who) for who in wanted]
     fills = timetable.fills(plans)
+    paths = [os.path.join(folder, name) for name in file_names(map(timetable.full, wanted))]
+    files = (path + ending for path in paths for ending in (".svg", ".csv"))
+    over = next((file for file in files if os.path.realpath(file) in read), None)
+    if over:
+        stop(f"--out-dir would write over {over}, which is read here: another folder is wanted")
     try:
         os.makedirs(folder, exist_ok=True)
-        for who, plan, name in zip(wanted, plans, file_names(map(timetable.full, wanted))):
+        for who, plan, path in zip(wanted, plans, paths):
             paper = Paper(f"{title}: {timetable.full(who)}")
             draw_plans(paper, [plan], fills)
-            put(os.path.join(folder, f"{name}.svg"), paper.svg())
-            put(os.path.join(folder, f"{name}.csv"), timetable.grid([who]))
+            put(f"{path}.svg", paper.svg())
+            put(f"{path}.csv", timetable.grid([who]))
     except OSError as why:
         stop(f"{why.filename or folder} can't be written: {why.strerror}", 3)
 
@@ -94,4 +100,4 @@ def write_plans(given: Namespace, picture: Kind, title: str) -> None:
     if given.grid:
         write_out(given.grid, grid_of(picture))
     if given.out_dir:
-        write_each(given.out_dir, picture, title)
+        write_each(given.out_dir, picture, title, read_by(given))

@@ -8,6 +8,7 @@ from typing import Optional
 from ..boards.cells import Cell, names_of
 from ..command_line.ends import stop
 from ..files.cover_files import MAX_OPTIONS
+from ..files.fault_words import plural
 from ..texts.limits import Refused
 from ..texts.names import hint_alike, in_one_case, some_words, want_one_spelling
 from ..texts.puzzles import Lists, Puzzle, refuse
@@ -74,7 +75,7 @@ def squares_on_board(cells: set[Cell], path: str, border: Optional[str]) -> Puzz
     """The squares of a file, one in each cell of a board."""
     found = read_squares(path)
     if len(cells) != len(found):
-        stop(f"{len(found)} squares can't fill {len(cells)} cells")
+        stop(f"{plural(len(found), 'square')} can't fill {plural(len(cells), 'cell')}")
     return squares(cells, found, border)
 
 

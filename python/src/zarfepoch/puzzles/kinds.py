@@ -186,8 +186,9 @@ KINDS = (
          "words of a list in a grid of rows of dots, given letters, and # for black cells; --repeat as above; with\n"
          "--ignore-case capital and small letters are alike",
          lambda given: f"{different(given)}words in a grid, across and down",
-         lambda given: [read_crossword(given.grid, given.file, given.repeat, given.ignore_case)],
-         (Argument("grid", metavar="GRID", help="rows of dots, letters and #"), file("words of any length", "WORDS"), REPEAT, IGNORE_CASE)),
+         lambda given: [read_crossword(given.cells, given.file, given.repeat, given.ignore_case)],
+         (Argument("cells", metavar="GRID", help="rows of dots, letters and #"), file("words of any length", "WORDS"),
+          REPEAT, IGNORE_CASE)),
     Kind("nonogram", "FILE",
          "black cells by the lengths of their blocks: a line of numbers for each row, an empty line, a line of\n"
          "numbers for each column, with blanks or commas between; a line without black cells is 0",

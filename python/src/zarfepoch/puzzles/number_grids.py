@@ -104,10 +104,15 @@ def dominoes_on(path: str, values: dict[Cell, int], most: int) -> Puzzle:
 def read_tents(path: str) -> tuple[list[list[str]], list[int], list[int], list[int]]:
     """The rows of trees, the numbers beside rows and below columns, and the numbers of the lines."""
     *lines, (last, below) = only_block(path)
+    if re.search("[tT.]", below):
+        refuse(path, last, f"the last line has the numbers of tents in columns, and here is '{below.strip()}'")
     columns = [number_of(path, last, word, c, 0, 99) for c, word in enumerate(names_in(path, last, below))]
     rows, beside = [], []
     for number, line in lines:
         *cells, count = names_in(path, number, line)
+        if not cells:
+            refuse(path, number, "cells and the number of their tents behind a blank are expected, and here is "
+                   f"'{count}' alone")
         marks = list(cells[0]) if len(cells) == 1 else cells
         if len(marks) != len(columns):
             refuse(path, number, f"{plural(len(columns), 'cell')} and a number are expected, as there are numbers in the last line, and here are {len(marks)}")
@@ -251,6 +256,11 @@ def read_futoshiki(path: str) -> tuple[list[list[int]], list[tuple[Cell, Cell]],
                 above, below = (len(rows) - 1, places.index(place)), (len(rows), places.index(place))
                 pairs.append((above, below) if mark in UP else (below, above))
         elif signs:
+            sign = next((mark for _, mark in signs if mark in UP + DOWN), None)
+            if sign:
+                place, other = next(one for one in signs if one[1] not in UP + DOWN)
+                refuse(path, number, f"the '{other}' at place {place + 1} stands beside a '{sign}': a line has either "
+                       "^ and v or digits, dots, < and >")
             places = [place for place, mark in signs if mark not in LESS + MORE]
             lines.append(number)
             rows.append([0 if line[place] in EMPTY | {"0"} else number_of(path, number, line[place], k, 1, 9) for k, place in enumerate(places)])
@@ -337,10 +347,14 @@ def read_kenken(path: str) -> tuple[list[str], dict[str, list[Cell]], dict[str, 
     rows = letters_of(path, blocks[0])
     cells, makes = cells_by_letter(rows), dict[str, tuple[str, int]]()
     for number, line in blocks[1]:
-        for word in names_in(path, number, re.sub(r"\s*[=:]\s*", "=", line)):
+        for word in names_in(path, number, re.sub(r"\s*[=:]\s*", "=", re.sub("[\u2212\u2013]", "-", line))):
             found = re.fullmatch(r"(\S)=([1-9]\d{0,6})([+*x\u00d7/:\u00f7-]?)", word) or re.fullmatch(r"(\S)=()([+*x\u00d7/:\u00f7-])([1-9]\d{0,6})", word)
-            if not found or found[1] not in cells or found[1] in makes:
-                refuse(path, number, f"'{word}' isn't what a cage of its own letter makes, as a=12+, b=6x, c=1-, d=2/ or e=3")
+            if not found:
+                refuse(path, number, f"'{word}' isn't what a cage makes, as a=12+, b=6x, c=1-, d=2/ or e=3")
+            if found[1] not in cells or found[1] in makes:
+                is_told = found[1] in makes
+                cage = f"the cage {found[1]} makes something already" if is_told else f"there is no cage {found[1]}"
+                refuse(path, number, f"'{word}': {cage}")
             makes[found[1]] = ({"x": "*", "\u00d7": "*", ":": "/", "\u00f7": "/"}.get(found[3], found[3]), int(found[2] or found[4]))
     for letter, its_cells in cells.items():
         number = blocks[0][its_cells[0][0]][0]

@@ -310,12 +310,23 @@ def read_sudoku(given: str, is_text: bool, diagonals: bool = False, box: Cell | 
     """A sudoku from characters or a file, with boxes."""
     path = TYPED if is_text else given
     digits, symbols, lines = digits_of(path, given if is_text else read_text(given))
+    if not is_text:
+        want_no_regions(path, len(digits))
     regions = regions_by_boxes(path, len(digits), box)
     if len(digits) not in BOXES and not regions:
         refuse(path, None, f"a sudoku of {len(digits)} by {len(digits)} has no boxes: the kind jigsaw takes its regions")
     if hyper and len(digits) != 9:
         refuse(path, None, f"a hyper sudoku has 9 rows, and this one {len(digits)}")
     return checked(path, Sudoku(digits, regions, diagonals, (), symbols, hyper), lines)
+
+
+def want_no_regions(path: str, size: int) -> None:
+    """Refuses a jigsaw, a sudoku behind which a letter of its region stands for each cell."""
+    for block in blocks_of(path)[1:]:
+        rows = [re.sub(r"[\s,;]", "", line) for _, line in block]
+        if len(rows) == size and all(row.isalpha() and len(row) == size for row in rows):
+            refuse(path, block[0][0], "letters of regions stand behind the digits: zarfepoch jigsaw reads them, and a "
+                   "sudoku has boxes")
 
 
 def regions_by_boxes(path: str, size: int, box: Cell | None) -> list[list[int]] | None:

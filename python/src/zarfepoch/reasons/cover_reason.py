@@ -187,6 +187,13 @@ def names_line(names: Iterable[bytes], named: Named) -> str:
 
 # ---- cases
 
+def told_words(option: Option, named: Named) -> list[str]:
+    """What an option's items are called, each with its colour."""
+    between = ":" if named is shown else " "
+    colours = (word.partition(b":")[2] for word in option.words)
+    return [named(name) + (between + shown(colour) if colour else "") for name, colour in zip(option.names, colours)]
+
+
 def case_words(reason: Reason, problem: Problem, named: Named) -> Iterator[str]:
     """That no option of the item leaves a cover, and why for the first of them."""
     called = quoted(reason.item) if named is shown else named(reason.item)
@@ -197,7 +204,7 @@ def case_words(reason: Reason, problem: Problem, named: Named) -> Iterator[str]:
     many = len(reason.cases)
     yield (f"each cover has one of the {many:,} options of {called}, and beside none of them there is one:" if many > 1 else
            f"each cover has the only option of {called}, and beside it there is none:")
-    yield f"  {first_few([named(name) for name in problem.options[number].names], SHOWN)}"
+    yield f"  {first_few(told_words(problem.options[number], named), SHOWN)}"
     yield from (f"    {line}" for line in case.words(beside(problem, number), named))
     if many > 1:
         yield "  each of the others has such a reason, too"

@@ -33,4 +33,4 @@ def check_range(puzzle: Puzzle) -> None:
     if twice:
         raise Refused(f"the name '{twice[0]}' would stand for two items")
     if not names:
-        raise Refused("nothing is left to cover")
+        raise Refused("nothing is left to cover: all that has to be found is given")

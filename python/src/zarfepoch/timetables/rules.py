@@ -95,6 +95,9 @@ def roles_in(lessons: list[Lesson]) -> dict[str, str]:
 
 def want_meant(path: str, row: Row, roles: dict[str, str], seen: dict[str, int]) -> None:
     """Refuses a row that can't be meant."""
+    if not row.who:
+        refuse(path, row.line, "who is missing: a teacher, a class, a room, or teachers, classes, rooms, all or "
+               "lessons")
     near = next((name for name in [*roles, *WORDS] if loose(name) & loose(row.who)), None)
     if row.who not in roles and row.who not in WORDS:
         refuse(path, row.line, f"no lesson has a teacher, a class or a room '{shown(row.who.encode())}'" + (f"; there is {near}" if near else ""))

@@ -178,7 +178,9 @@ def followers(school: School) -> dict[str, Lesson]:
     for lesson in (lesson for lesson in school.lessons if lesson.after):
         some = by_name.get(lesson.after, [])
         some = [one for one in some if set(one.classes) & set(lesson.classes)] if len(some) > 1 else some
-        if len(some) != 1 or some[0] is lesson:
+        if some == [lesson]:
+            refuse(school.path, lesson.line, f"after: {lesson.title} would follow itself")
+        if len(some) != 1:
             refuse(school.path, lesson.line, f"after: there is no lesson '{lesson.after}'" + (" of one class of its own" if some else "") + " to follow")
         if some[0].name in found:
             refuse(school.path, lesson.line, f"after: {some[0].title} is followed by {found[some[0].name].title} already, in line "

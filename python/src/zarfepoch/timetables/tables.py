@@ -136,8 +136,9 @@ def number_in(path: str, line: int, row: dict[str, str], column: str, least: int
 
 
 def alternatives(cell: str) -> list[str]:
-    """The parts of a cell of which a lesson has one, with `or` between them."""
-    return [part.strip() for part in re.split(r"\s(?:or|oder)(?=\s)", cell)]
+    """The parts of a cell of which a lesson has one, with `or` between them; a part is empty where nothing stands
+    beside an `or`."""
+    return [part.strip() for part in re.split(r"\s(?:or|oder)(?=\s|$)|^(?:or|oder)(?=\s)", cell)]
 
 
 def want_names(path: str, line: int, row: dict[str, str]) -> None:
@@ -163,7 +164,10 @@ class Rooms:
         if cell in ("", NOBODY):
             return [()]
         want_joined(self.path, line, "rooms", cell, self.whole)
-        words = [word for word in re.split(r"[\s;,]+", re.sub(r"\s*\+\s*", "+", " ".join(alternatives(cell)))) if word]
+        parts = alternatives(cell)
+        if "" in parts:
+            refuse(self.path, line, f"rooms '{cell}': a room is missing beside 'or'")
+        words = [word for word in re.split(r"[\s;,]+", re.sub(r"\s*\+\s*", "+", " ".join(parts))) if word]
         if not words:
             refuse(self.path, line, f"rooms '{cell}': a room is missing; where there is none, the cell is empty")
         return list(dict.fromkeys(self.together(line, cell, word) for word in words))

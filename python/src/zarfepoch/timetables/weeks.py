@@ -114,7 +114,11 @@ class Periods:
             if days:
                 return [f"{day}{number}" for day in days for number in range(int(several[3]), int(several[4]) + 1)]
             refuse(self.path, line, f"'{word}': nobody knows which days lie between {several[1]} and {several[2]}; write each day, as Mon1-6 Tue1-6")
-        refuse(self.path, line, f"'{word}' is no range of periods, as Mon1-4, 1-30 or Mon-Fri1-6; a period's name has no '-'")
+        days = self.days_between(*word.split("-")) if re.fullmatch(r"[^\d-]+-[^\d-]+", word) else []
+        meant = "a period's name has no '-'"
+        if days:
+            meant = f"whole days are {' '.join(days)} where somebody is away, and {word}1-6 are periods"
+        refuse(self.path, line, f"'{word}' is no range of periods, as Mon1-4, 1-30 or Mon-Fri1-6; {meant}")
 
     def read(self, line: int, cell: str) -> list[str]:
         """The periods that a cell names."""
