@@ -37,7 +37,16 @@ pub struct PlaneCounts {
     pub turn: usize,
 }
 
-/// Whether there are at most 128 primary items, and at most 255 options for each. All options are live.
+/// How many options an item may have at most, where there are so many primary items: eight digits of two halves take
+/// longer than keys do, some 45 % more instructions on twelve pentominoes in 3 by 20 squares.
+fn most_options(primary: usize) -> u32
+    ensures { result ≤ 255 }
+{
+    if primary > 64 { 127 } else { 255 }
+}
+
+/// Whether there are at most 64 primary items, and at most 255 options for each, or at most 128, and at most 127. All
+/// options are live.
 pub fn is_small(sets: &OptionSets, live: &[u64]) -> bool
     requires { IsLive sets.now [] live.now }
     ensures { IsTrue result → IsSmall sets.now }
@@ -46,8 +55,9 @@ pub fn is_small(sets: &OptionSets, live: &[u64]) -> bool
     if primary > 128 {
         return false;
     }
+    let most = most_options(primary);
     for item in 0..primary as u16 {
-        if count_row(sets.row(item), live) > 255 {
+        if count_row(sets.row(item), live) > most {
             return false;
         }
     }

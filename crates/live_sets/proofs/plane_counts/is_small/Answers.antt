@@ -11,6 +11,6 @@ loop-item-preserved c i low = elim (cases_lt i c.loop-item.item) [
       let at : i ≡ c.loop-item.item = omega (arith, low, last) in
       let P : ℕ → Type 0 = λ n. length (live_options c.args.sets.now [] n) < 256 in
       let own : length (live_options c.args.sets.now [] c.loop-item.item) < 256 =
-      omega (arith, count_live c.args.sets.now [] c.args.live.now c.loop-item.item c.row.result.now c.requires c.row.ensures, c.count_row.ensures, c.if-count_row-gt255.false) in
+      omega (arith, count_live c.args.sets.now [] c.args.live.now c.loop-item.item c.row.result.now c.requires c.row.ensures, c.count_row.ensures, c.if-count_row-most.false, c.most_options-most.ensures) in
       subst P (sym at) own
 ]
