@@ -17,5 +17,5 @@ pub use clique::Clique;
 pub use excluding::{RoomByCliques, find_room_by_cliques};
 pub use growing::find_cliques;
 pub use laws::{a_clique_is_chosen_once, cliques_keep_covers, one_clique_keeps_covers};
-pub use making::{WithCliques, with_cliques, with_found_cliques};
+pub use making::with_cliques;
 pub use testing::{clash_by_twos, is_clique};

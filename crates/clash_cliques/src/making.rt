@@ -5,22 +5,11 @@ ghost use Rattle.clash_cliques.specs.Cliques.{are_cliques, with_cliques, IsWithC
 
 use crate::adding::with_clique;
 use crate::clique::Clique;
-use crate::growing::find_cliques;
 use crate::laws::cliques_keep_covers;
 use crate::testing::is_clique;
 use cover_problem::Problem;
 use cover_reasons::{Endless, ReasonWatch};
 use std::alloc::{AllocError, Global};
-
-/// A problem with further secondary items, and the cliques that they stand for.
-#[derive(Debug, Drop)]
-pub struct WithCliques {
-    /// The problem, with the same options in the same order and the same exact covers. The further items are its last
-    /// ones.
-    pub problem: Problem,
-    /// The cliques, in the order of their items.
-    pub cliques: Vec<Clique>,
-}
 
 /// The problem with an item for each of the cliques, one after the other; nothing where one of them is none, or the
 /// watch ends that. The only error is out of memory.
@@ -70,24 +59,4 @@ pub(crate) fn with_cliques_until<W: ReasonWatch>(
     cliques_keep_covers();
     problem.recall_rules();
     made_with(alloc, problem, cliques, watch)
-}
-
-/// The problem with a further secondary item for each clique that is found before the watch ends that; nothing where
-/// none is found. The only error is out of memory.
-pub fn with_found_cliques<W: ReasonWatch>(
-    alloc: Global,
-    problem: &Problem,
-    watch: &mut W,
-) -> Result<Option<WithCliques>, AllocError>
-    ensures { IfOk result (λ found. IfSome found (λ made.
-        IsWithCliques problem.now made.cliques.items made.problem)) }
-{
-    let cliques = find_cliques(alloc, problem, watch)?;
-    if cliques.is_empty() {
-        return Ok(None);
-    }
-    match with_cliques_until(alloc, problem, &cliques, watch)? {
-        Some(problem) => Ok(Some(WithCliques { problem, cliques })),
-        None => Ok(None),
-    }
 }

@@ -167,18 +167,12 @@ impl<'a> ImpliedClauses<'a> {
         Ok(true)
     }
 
-    /// Takes in a clause of which the caller knows that it is implied, such as that not all options of a barren prefix
-    /// are chosen.
+    /// Takes in a clause that is known to be implied.
     ///
     /// # Errors
     ///
     /// Out of memory; then nothing changes.
-    pub fn admit(
-        &mut self,
-        alloc: Global,
-        place: usize,
-        clause: &[Literal],
-    ) -> Result<(), AllocError>
+    fn admit(&mut self, alloc: Global, place: usize, clause: &[Literal]) -> Result<(), AllocError>
         requires place { place ≤ length self.old.list }
         requires implied { IsImplied self.old.problem clause.now }
         ensures { MatchResult result (λ done. self.new ≡ learned self.old place clause.now)
