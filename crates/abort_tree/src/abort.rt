@@ -16,7 +16,7 @@ use std::alloc::{AllocError, Global};
 /// there are.
 ///
 /// It is `Descendants::below` and `Descendants::abort` in one. Ledgers call these two, as they abort below several
-/// units in one event.
+/// units in one event; only tests call this.
 pub fn abort_below(
     alloc: Global,
     table: &mut Table,

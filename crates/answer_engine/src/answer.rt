@@ -11,7 +11,7 @@ ghost use Rattle.search_engines.specs.Output.{IsOutputOf, status_in};
 use crate::basis::{Basis, Won};
 use crate::lanes::{learner_lane, run_lane, search_lane};
 use crate::race::Race;
-use crate::race_watches::{CountingWatch, LaneWatch, SearchWatch};
+use crate::race_watches::{CountingWatch, LaneWatch, SearchLaneWatch};
 use crate::telling::write_told;
 use cover_problem::Problem;
 use dlx_reader::{Sink, Source};
@@ -98,7 +98,7 @@ fn run_and_search<V: EndWatch, R: Threads + Wait + Clock + Sync>(
 {
     let (rt, alloc, threads) = (task.rt, task.alloc, task.threads);
     let mut run = lane_watch(task, race);
-    let mut search = SearchWatch {
+    let mut search = SearchLaneWatch {
         clock: rt,
         race,
         time: task.time,

@@ -11,7 +11,7 @@ use crate::basis::Won;
 use crate::heard_lanes::heard_search_lane;
 use crate::lanes::learner_lane;
 use crate::race::Race;
-use crate::race_watches::{HeardWatch, SearchWatch};
+use crate::race_watches::{HeardWatch, SearchLaneWatch};
 use crate::telling::write_told;
 use cover_problem::Problem;
 use decider::Trace;
@@ -58,7 +58,7 @@ fn race_heard_lanes<
         time: task.time,
         listener: hears_learner,
     };
-    let mut search = SearchWatch {
+    let mut search = SearchLaneWatch {
         clock: rt,
         race: &race,
         time: task.time,

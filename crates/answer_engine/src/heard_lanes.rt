@@ -6,7 +6,7 @@ ghost use Rattle.answer_engine.specs.Answers.{IsWonOf};
 use crate::basis::{Basis, Won};
 use crate::lanes::search_keeping_states;
 use crate::race::{Race, short_limit};
-use crate::race_watches::SearchWatch;
+use crate::race_watches::SearchLaneWatch;
 use brancher::Unwatched;
 use cover_problem::{Answer, Problem};
 use cover_reasons::{ReasonWatch, find_reason_until};
@@ -35,7 +35,7 @@ fn search_briefly<C: Clock>(
     ensures { IfOk result (λ found. IfSome found (IsWonOf problem.now)) }
 {
     let inner = &mut Unwatched;
-    let mut short = SearchWatch {
+    let mut short = SearchLaneWatch {
         clock,
         race,
         time: Some(short_limit(clock)),
@@ -51,7 +51,7 @@ fn search_briefly<C: Clock>(
 fn search_heard<V: EndWatch, T: Trace + ReasonListener, C: Clock>(
     alloc: Global,
     problem: &Problem,
-    watch: &mut SearchWatch<'_, '_, '_, V, C>,
+    watch: &mut SearchLaneWatch<'_, '_, '_, V, C>,
     listener: &mut T,
 ) -> Result<Option<Won>, AllocError>
     ensures { IfOk result (λ found. IfSome found (IsWonOf problem.now)) }
@@ -93,7 +93,7 @@ fn find_reason_heard<W: ReasonWatch, T: ReasonListener>(
 fn search_briefly_then_heard<V: EndWatch, T: Trace + ReasonListener, C: Clock>(
     alloc: Global,
     problem: &Problem,
-    watch: &mut SearchWatch<'_, '_, '_, V, C>,
+    watch: &mut SearchLaneWatch<'_, '_, '_, V, C>,
     listener: &mut T,
 ) -> Result<Option<Won>, AllocError>
     ensures { IfOk result (λ found. IfSome found (IsWonOf problem.now)) }
@@ -115,7 +115,7 @@ fn search_briefly_then_heard<V: EndWatch, T: Trace + ReasonListener, C: Clock>(
 pub(crate) fn heard_search_lane<V: EndWatch, T: Trace + ReasonListener, C: Clock>(
     alloc: Global,
     problem: &Problem,
-    watch: &mut SearchWatch<'_, '_, '_, V, C>,
+    watch: &mut SearchLaneWatch<'_, '_, '_, V, C>,
     listener: &mut T,
 ) -> Result<Option<Won>, AllocError>
     ensures { IfOk result (λ found. IfSome found (IsWonOf problem.now)) }

@@ -6,7 +6,7 @@ ghost use Rattle.learner.specs.Found.{IsTrueOf};
 
 use crate::basis::{Basis, Won};
 use crate::race::{Race, workers_of};
-use crate::race_watches::{LaneWatch, SearchWatch};
+use crate::race_watches::{LaneWatch, SearchLaneWatch};
 use cover_problem::{Answer, Problem};
 use cover_reasons::ReasonWatch;
 use learner::{Found, LearnerWatch, Settings, find_cover};
@@ -25,7 +25,7 @@ use std::time::Clock;
 pub(crate) fn search_keeping_states<V: EndWatch, C: Clock>(
     alloc: Global,
     problem: &Problem,
-    watch: &mut SearchWatch<'_, '_, '_, V, C>,
+    watch: &mut SearchLaneWatch<'_, '_, '_, V, C>,
 ) -> Result<Option<Won>, AllocError>
     ensures { IfOk result (λ found. IfSome found (IsWonOf problem.now)) }
 {
@@ -42,7 +42,7 @@ pub(crate) fn search_keeping_states<V: EndWatch, C: Clock>(
 pub(crate) fn search_lane<V: EndWatch, C: Clock>(
     alloc: Global,
     problem: &Problem,
-    watch: &mut SearchWatch<'_, '_, '_, V, C>,
+    watch: &mut SearchLaneWatch<'_, '_, '_, V, C>,
 ) -> Result<Option<Won>, AllocError>
     ensures { IfOk result (λ found. IfSome found (IsWonOf problem.now)) }
 {

@@ -61,7 +61,7 @@ impl<'a, 'b, 'c, C: Clock, L: LearnerWatch> LearnerWatch for HeardWatch<'a, 'b, 
 
 /// Stops the search, counts the states that it comes to, and does what another watch does.
 #[derive(Drop)]
-pub(crate) struct SearchWatch<'a, 'b, 'c, V: EndWatch, C: Clock> {
+pub(crate) struct SearchLaneWatch<'a, 'b, 'c, V: EndWatch, C: Clock> {
     pub(crate) clock: &'a C,
     pub(crate) race: &'b Race,
     pub(crate) time: Option<TimeLimit>,
@@ -69,7 +69,7 @@ pub(crate) struct SearchWatch<'a, 'b, 'c, V: EndWatch, C: Clock> {
     pub(crate) states: u64,
 }
 
-impl<'a, 'b, 'c, V: EndWatch, C: Clock> Watch for SearchWatch<'a, 'b, 'c, V, C> {
+impl<'a, 'b, 'c, V: EndWatch, C: Clock> Watch for SearchLaneWatch<'a, 'b, 'c, V, C> {
     ghost use Rattle.std.specs.Prelude.{true};
 
     ghost may_stop = { true };
@@ -86,7 +86,7 @@ impl<'a, 'b, 'c, V: EndWatch, C: Clock> Watch for SearchWatch<'a, 'b, 'c, V, C> 
     }
 }
 
-impl<'a, 'b, 'c, V: EndWatch, C: Clock> ReasonWatch for SearchWatch<'a, 'b, 'c, V, C> {
+impl<'a, 'b, 'c, V: EndWatch, C: Clock> ReasonWatch for SearchLaneWatch<'a, 'b, 'c, V, C> {
     fn look(&mut self) -> bool {
         // (while a reason is looked for no option is chosen)
         self.inner.look(&[], u64::MAX) || is_over(self.clock, self.race, &self.time)

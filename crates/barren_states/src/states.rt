@@ -37,13 +37,13 @@ const MOST_SLOTS: u64 = 1 << 32;
 pub struct BarrenStates {
     /// The slots: none are in use at first, then twice as many each time as more is kept.
     slots: Slots,
-    /// How many keys were kept since there are so many slots.
+    /// How many keys were kept since the table last grew, or came to where it would have, at its greatest size.
     kept: usize,
     /// How much each slot is worth. It fades with each key that is kept beside it, and is as at first once its key is
     /// found.
     worths: Vec<u8>,
-    /// Room for a key that is moved.
-    spare: Vec<u64>,
+    /// Room for a key that is moved when the table grows.
+    moved_key: Vec<u64>,
 }
 
 impl Model for BarrenStates {
@@ -55,7 +55,7 @@ impl Model for BarrenStates {
     ghost view = { λ t. t.slots };
 
     ghost invariant = { λ t. (t.slots.slots ≤ length t.worths.items)
-        × (length t.spare.items ≡ t.slots.width) };
+        × (length t.moved_key.items ≡ t.slots.width) };
 }
 
 impl BarrenStates {
@@ -71,12 +71,12 @@ impl BarrenStates {
         let most = (room / (width as u64 * 8 + 9)).min(MOST_SLOTS) as usize;
         let slots = Slots::build(alloc, width, most)?;
         let worths = Vec::with_capacity(alloc, most)?;
-        let spare = vec![in alloc; 0u64; width]?;
+        let moved_key = vec![in alloc; 0u64; width]?;
         Ok(BarrenStates {
             slots,
             kept: 0,
             worths,
-            spare,
+            moved_key,
         })
     }
 
@@ -203,14 +203,14 @@ impl BarrenStates {
         ensures most { self.new.most ≡ self.old.most }
         ensures held { HoldsNoMore self.old self.new }
     {
-        let visits = self.slots.copy(slot, &mut self.spare);
+        let visits = self.slots.copy(slot, &mut self.moved_key);
         if visits == 0 {
             return;
         }
-        self.slots.write(slot, &self.spare, 0);
+        self.slots.write(slot, &self.moved_key, 0);
         let worth = self.worths[slot];
         self.worths[slot] = 0;
-        let (first, second) = places_of(hash_of(&self.spare), self.slots.count());
+        let (first, second) = places_of(hash_of(&self.moved_key), self.slots.count());
         let place = if self.worths[first] <= self.worths[second] {
             first
         } else {
@@ -219,7 +219,7 @@ impl BarrenStates {
         if self.worths[place] > worth {
             return;
         }
-        self.slots.write(place, &self.spare, visits);
+        self.slots.write(place, &self.moved_key, visits);
         self.worths[place] = worth;
     }
 }

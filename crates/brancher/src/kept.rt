@@ -7,8 +7,8 @@
 //!   another worker found needs no note;
 //! - it took `LEAST_VISITS` or more, those that were skipped counted. Whoever traces a search may say fewer, and so
 //!   leave a state out;
-//! - it has a key, of the table's width, and the table has slots. Where both of a key's slots are full, the state of
-//!   lesser worth goes.
+//! - it has a key, of the table's width, and the table has slots. Of a key's two slots the one of lesser worth is taken,
+//!   the first one of equals, and what was in it goes (`BarrenStates`).
 //!
 //! If the room for a table is refused, half of it is tried, and so on down to none: that is no error, since the table
 //! only saves time.

@@ -28,8 +28,8 @@ use cover_problem::Problem;
 use std::alloc::{AllocError, Global};
 use std::marker::Model;
 
-/// The room for states that suits a search by one thread, in bytes.
-pub const TABLE_BYTES: u64 = 64 << 20;
+/// The room for kept states that suits a search by one thread, in bytes (of a `Searcher`; `Tables` are something else).
+pub const STATE_BYTES: u64 = 64 << 20;
 
 /// A search over one problem, by dancing links or over sets of live options.
 #[derive(Drop)]
@@ -72,7 +72,8 @@ impl<'a> Searcher<'a> {
         })
     }
 
-    /// A search over the tables of a problem, which several searches may share; the only error is out of memory.
+    /// A search over the tables of a problem, which several searches may share; the only error is out of memory. Only
+    /// tests and tools call this: the program keeps states, or searches by `decider`.
     pub fn of_tables(alloc: Global, tables: &'a Tables<'a>) -> Result<Searcher<'a>, AllocError>
         ensures { IfOk result (λ s. s.problem ≡ tables.now) }
     {

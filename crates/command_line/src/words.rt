@@ -218,7 +218,8 @@ pub fn request<'a>(alloc: Global, words: &'a [&'a str]) -> Result<Request<'a>, S
     Ok(request)
 }
 
-/// Returns the settings that the words of a command line spell. The errors are those of `request`.
+/// Returns the settings that the words of a command line spell. The errors are those of `request`, which the program
+/// calls; only tests call this.
 pub fn settings<'a>(alloc: Global, words: &'a [&'a str]) -> Result<Settings<'a>, SettingsFault>
     ensures met { IfOk result
         (AreMet (subcommand_of solver_app (map (λ word. word.now) words.now))) }

@@ -44,10 +44,10 @@ pub trait Network: Drop {
     /// It has refused the links of so many nodes for this reason. Only a call of `links` shows it.
     ghost has_refused: { Self → ℕ → NetworkFault → Type 0 };
 
-    /// The end of one site.
+    /// The endpoint of one site.
     type End: Link + Send;
 
-    /// The ends of the registry and of so many nodes, the registry's first.
+    /// The endpoints of the registry and of so many nodes, the registry's first.
     fn links(&self, alloc: Global, nodes: u8) -> Result<Vec<Self::End>, NetworkFault>
         ensures many { IfOk result (λ links. vec_len links ≡ nodes + 1) }
         ensures refused { IfErr result (λ fault. has_refused self.now nodes fault) };

@@ -20,7 +20,7 @@ use std::thread::Threads;
 use std::time::Clock;
 use udp_node::{MemoryLink, Open, Wires};
 
-/// How many visits the first jobs of a run may take, as many as of `solve` by default.
+/// By how many visits the jobs of a run are measured, as by `solve` without `--fuel`.
 const FUEL: u64 = 1_000;
 
 /// How many entries a site's book may have. Both books may take `USUAL_BOOK_BYTES` together.

@@ -38,7 +38,7 @@ impl Wakers {
     }
 }
 
-/// The end of a site on wires in memory, whose receives wait for some milliseconds. Once the run is over each receive
+/// The endpoint of a site on wires in memory, whose receives wait for some milliseconds. Once the run is over each receive
 /// fails, which ends the site, and with it the run.
 #[derive(Drop)]
 pub struct WaitingLink<'a, 'b> {
@@ -53,7 +53,7 @@ pub struct WaitingLink<'a, 'b> {
 }
 
 impl<'a, 'b> WaitingLink<'a, 'b> {
-    /// The end of this site, which is this end of the wires.
+    /// The endpoint of this site, which has this one of the wires.
     pub fn new(
         end: MemoryLink,
         site: u8,

@@ -21,7 +21,7 @@ pub const VERSION: u8 = 1;
 pub const SECOND_VERSION: u8 = 2;
 
 /// The most bytes that a packet has, a GiveMany: the header 14, the count of children 1, a prefix of 999 options 2 +
-/// 1,998, eight children 80.
+/// 1,998, eight children 80. A datagram has to have room for it (`LONGEST_DATAGRAM` of site_network).
 pub const LONGEST_PACKET: usize = 2095;
 
 /// Writes a number of one byte.

@@ -50,7 +50,7 @@ fn write_fueled<W: Sink>(
 
 /// Reads a problem to its end, searches it until so many visits are counted, those below a skipped state too, and
 /// writes its first cover, with the options in the order of the file, or `none`, or `no answer` where it would count
-/// more.
+/// more. Only tests call this: the program calls `alone_within`.
 ///
 /// # Errors
 ///
@@ -110,7 +110,8 @@ fn write_limited<V: EndWatch, W: Sink, C: Clock>(
 
 /// Does what `alone_engine` does within limits: it writes the first cover, or `none`, or `no answer` once a limit is
 /// met, of visits or of time. Without a limit it decides; where visits have none, it looks for a reason that there is
-/// no cover after a hundredth of a second, shortly, and after a tenth of a second, before it searches on.
+/// no cover after a hundredth of a second, shortly and only in small problems, and after a tenth of a second, before it
+/// searches on.
 ///
 /// Meanwhile it writes to the log how far the search has come, by the visits that it made itself: what lies below a
 /// state that it knows is skipped. The log changes no answer: a fault of its sink is passed over. `Memory` also comes

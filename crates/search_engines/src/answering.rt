@@ -41,8 +41,8 @@ fn given_answer<V: Watch, C: Clock>(
 
 /// Returns the answer of a problem: its first cover, with its options in the order of the file, or that there is none;
 /// or why it has no answer: the search would count more visits than the limits allow, or has lasted as long as they do.
-/// Where visits have no limit, a reason is looked for after a hundredth of a second, shortly, and after a tenth. The
-/// only error is out of memory.
+/// Where visits have no limit, a reason is looked for after a hundredth of a second, shortly and only in small problems,
+/// and after a tenth. The only error is out of memory.
 #[tactic(auto, using(crate::proofs::Outcomes::whole_by, crate::proofs::Outcomes::timed_by))]
 pub fn answer_within<V: EndWatch, C: Clock>(
     clock: &C,

@@ -236,6 +236,7 @@ fn write_check_within<W: Sink, C: Clock>(
 
 /// Reads a problem and an answer to it, both to their ends, tests the answer, and writes `right`, or what is wrong, or
 /// `no answer`: a cover is tested by counting, and that there is none by a search that counts so many visits at most.
+/// Only tests call this: the program calls `check_within`.
 ///
 /// # Errors
 ///

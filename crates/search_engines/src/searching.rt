@@ -10,7 +10,7 @@ ghost use Rattle.dlx_reader.specs.Writing.{IsWritable};
 ghost use Rattle.search_engines.specs.Alone.{IsGivenIf, answer_by, answer_or, why_spent};
 
 use crate::unanswered::Unanswered;
-use brancher::{Finding, Outcome, Searcher, TABLE_BYTES, Tables, Watch};
+use brancher::{Finding, Outcome, STATE_BYTES, Searcher, Tables, Watch};
 use cover_problem::{Answer, Problem, in_order};
 use decider::{Decider, Decision, Trace, Untraced};
 use std::alloc::{AllocError, Global};
@@ -47,7 +47,7 @@ fn search_counting<V: Watch>(
     ensures answer { IfOk result (IsGivenIf (V.may_stop ≡ true) tables.now (Some fuel)) }
     ensures order { IfOk result (λ given. IfOk given (IsWritable tables.now)) }
 {
-    let mut searcher = Searcher::keeping(alloc, tables, TABLE_BYTES)?;
+    let mut searcher = Searcher::keeping(alloc, tables, STATE_BYTES)?;
     match searcher.find_until(Vec::new(alloc), fuel, watch) {
         Ok(Some((finding, _visits))) => found_answer(alloc, tables.problem(), &finding, fuel),
         Ok(None) => Ok(Err(Unanswered::Time)),
@@ -84,7 +84,7 @@ pub(crate) fn search_uncounted<V: Watch, T: Trace>(
     ensures order { IfOk result (λ found. IfSome found (IsWritable tables.now)) }
 {
     let problem = tables.problem();
-    let mut decider = Decider::new(alloc, tables, TABLE_BYTES)?;
+    let mut decider = Decider::new(alloc, tables, STATE_BYTES)?;
     match decider.decide_traced(watch, trace) {
         Decision::Found => Ok(Some(Answer::Cover(in_order(alloc, problem, decider.found())?))),
         Decision::Barren(_) => Ok(Some(Answer::NoCover)),

@@ -11,7 +11,7 @@ pub struct Plan {
     pub workers: u8,
     /// How many nodes there are beside the registry, from 1 to 16.
     pub nodes: u8,
-    /// How many visits a search has at first, at least 1.
+    /// By how many visits the jobs of the run are measured, at least 1: `Pace` says how many each gets.
     pub fuel: u64,
     /// What the victims are drawn from.
     pub seed: u64,

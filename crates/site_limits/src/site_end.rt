@@ -10,7 +10,7 @@ pub struct SiteEnd {
     pub cause: EndCause,
     /// How many parcels were lost: the outbox was full, or the link didn't send them.
     pub losses: u64,
-    /// How many datagrams came that are no packets: those of strangers, mostly.
+    /// How many datagrams came that weren't heard: those of strangers, mostly, and what is no packet.
     pub dropped: u64,
     /// How many calls of its link failed.
     pub failures: u64,

@@ -6,26 +6,26 @@ use crate::end_cause::EndCause;
 /// What came of a thread's turn.
 #[derive(Clone, Copy, Debug, PartialEq, Eq)]
 pub enum Turn {
-    /// Something was done.
-    Used,
-    /// There was nothing to do, and it waited.
-    Waited,
+    /// It is one of the turns that the thread may take.
+    Counted,
+    /// It is none of them: there was nothing to do, or what came was known.
+    Free,
     /// Something was to be done, but memory ran out.
     Starved,
     /// The thread ends.
     Ended(EndCause),
 }
 
-/// How often memory may run out with nothing done in between: then the thread ends, a tenth of a second later, as it
-/// waits a millisecond each time. Chosen, not measured.
+/// How often memory may run out with no turn that counts in between: then the thread ends, a tenth of a second later,
+/// as it waits a millisecond each time. Chosen, not measured.
 const SHORTAGES: u32 = 100;
 
-/// How many turns a thread may take, and how many it took. One in which it waited is none.
+/// How many turns a thread may take, and how many it took that count.
 #[derive(Clone, Copy, Debug, PartialEq, Eq)]
 pub struct Limits {
     most: u64,
     taken: u64,
-    /// How often memory ran out since something was done last.
+    /// How often memory ran out since the last turn that counted.
     shortages: u32,
 }
 
@@ -39,7 +39,7 @@ impl Limits {
         }
     }
 
-    /// How many it took.
+    /// How many it took that count.
     pub fn taken(&self) -> u64 {
         self.taken
     }
@@ -52,8 +52,8 @@ impl Limits {
     /// Counts a turn by its result, and returns the cause if the thread ends by it.
     pub fn note(&mut self, turn: Turn) -> Option<EndCause> {
         match turn {
-            Turn::Used => self.use_turn(),
-            Turn::Waited => {}
+            Turn::Counted => self.count_turn(),
+            Turn::Free => {}
             Turn::Starved => return self.starve(),
             Turn::Ended(cause) => return Some(cause),
         }
@@ -70,8 +70,8 @@ impl Limits {
         }
     }
 
-    /// It took a turn.
-    fn use_turn(&mut self) {
+    /// It took a turn that counts.
+    fn count_turn(&mut self) {
         self.shortages = 0;
         self.taken = self.taken.saturating_add(1);
     }

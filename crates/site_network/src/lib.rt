@@ -8,4 +8,4 @@ mod udp_link;
 
 pub use link::{Link, LinkFault};
 pub use memory_link::{MemoryLink, Wires};
-pub use udp_link::{Sockets, UdpLink, bound};
+pub use udp_link::{LONGEST_DATAGRAM, Sockets, UdpLink, bound};

@@ -14,7 +14,7 @@ use std::sync::Wait;
 #[derive(Clone, Copy, Debug, PartialEq, Eq)]
 pub struct LinkFault;
 
-/// A site's end of a network of datagrams. What is sent may be lost, come more than once, or in another order.
+/// A site's endpoint in a network of datagrams. What is sent may be lost, come more than once, or in another order.
 pub trait Link: Drop {
     ghost failed: { Self → ℕ };
 
@@ -42,7 +42,7 @@ pub trait Link: Drop {
         ensures { failed self.new ≡ failed self.old }
     {}
 
-    /// Returns a second value on the same end, which has not failed yet.
+    /// Returns a second value on the same endpoint, which has not failed yet.
     ///
     /// # Errors
     ///

@@ -44,7 +44,7 @@ impl Wires {
     }
 }
 
-/// The end of a site on wires in memory. A receive does not wait.
+/// The endpoint of a site on wires in memory. A receive does not wait.
 #[derive(Drop)]
 pub struct MemoryLink {
     wires: Arc<Wires, Global>,
@@ -53,7 +53,7 @@ pub struct MemoryLink {
 }
 
 impl MemoryLink {
-    /// The end of this site.
+    /// The endpoint of this site.
     pub fn new(wires: Arc<Wires, Global>, site: u8) -> MemoryLink
         ensures { result.failures ≡ 0 }
     {

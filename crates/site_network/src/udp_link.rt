@@ -15,8 +15,9 @@ use std::time::Duration;
 /// measured.
 const PATIENCE: u64 = 4;
 
-/// How many bytes a datagram has at most, without its code: more than the longest packet.
-const LONGEST: usize = 2_096;
+/// How many bytes a datagram has at most, without its code: one more than the longest packet has, as `node_tests` tests.
+/// A longer one fails to be sent, and would be lost.
+pub const LONGEST_DATAGRAM: usize = 2_096;
 
 /// A socket on 127.0.0.1 with a port of the system's choice, whose receives wait 4 to 8 milliseconds at most, by the
 /// system's clock. The errors are the system's.
@@ -67,7 +68,7 @@ fn addresses_of(alloc: Global, sockets: &[UdpSocket]) -> io::Result<Vec<SocketAd
     Ok(addresses)
 }
 
-/// The end of a site that has a socket; its twins have the same one. Behind each datagram that it sends it puts the
+/// The endpoint of a site that has a socket; its twins have the same one. Behind each datagram that it sends it puts the
 /// code of the run's key, and of what comes it hears only what has the right one: any other datagram is a stranger's,
 /// and comes as one without bytes.
 #[derive(Drop)]
@@ -78,7 +79,7 @@ pub struct UdpLink {
 }
 
 impl UdpLink {
-    /// The end of the site of this node, among these sockets. Where it has none there, each of its calls fails.
+    /// The endpoint of the site of this node, among these sockets. Where it has none there, each of its calls fails.
     pub fn new(sockets: Arc<Sockets, Global>, node: u8) -> UdpLink
         ensures { result.failures ≡ 0 }
     {
@@ -96,7 +97,7 @@ impl UdpLink {
 
     /// Sends a datagram with its code, and returns whether the system took it whole.
     fn send_sealed(&self, to: u8, bytes: &[u8]) -> bool {
-        let mut room = [0; LONGEST + CODE];
+        let mut room = [0; LONGEST_DATAGRAM + CODE];
         let sealed = self.sockets.key.seal(bytes, &mut room);
         match (self.socket(), self.sockets.address(to), sealed) {
             (Some(socket), Some(address), Some(many)) =>
@@ -115,7 +116,7 @@ impl UdpLink {
             return Err(io::Error::from(ErrorKind::NotConnected));
         };
         // (a longer datagram is cut off, so its code is wrong)
-        let mut datagram = [0; LONGEST + CODE];
+        let mut datagram = [0; LONGEST_DATAGRAM + CODE];
         let (came, _) = socket.recv_from(&mut datagram)?;
         let own = self.sockets.key.open(&datagram[..came]).unwrap_or(0);
         let bytes = own.min(into.len());

@@ -85,6 +85,8 @@ impl Table {
     /// Another site's child becomes a ready guest, which keeps the prefix that is handed in; the only error is out of
     /// memory, which changes nothing. It costs searches by halving, a move of the guests that stand behind, and one of
     /// the places of those among them that are open.
+    ///
+    /// Only tests call this: ledgers admit several at a time.
     pub fn admit(
         &mut self,
         name: ChildName,

@@ -21,8 +21,8 @@ impl Ledger {
     /// there yet. None does where a later incarnation of their owner is known, or where all are there already. True
     /// where any does. The only error is out of memory, which changes nothing.
     ///
-    /// The cores call its parts, since a prefix that they don't believe has to be refused between them; only tests call
-    /// this.
+    /// The cores call its parts, since a prefix that they don't believe has to be refused between them; only tests and
+    /// tools call this.
     pub fn receive_give(&mut self, from: Site, given: Given) -> Result<bool, AllocError>
         requires { AllByRecursion (λ g. 1 ≤ g.attempt) (gifts_of given) }
         ensures ok { IfOk result (λ moved.

@@ -8,7 +8,7 @@ use Rattle.site_limits.specs.declared.plan.Plan.{Plan}
 abbrev pub incarnation_plan : Plan → ℕ → Bool → Plan
 incarnation_plan plan restarts is_over = record plan {
   turns = plan.turns / suc restarts;
-  timing = record plan.timing { silence = if is_over then 1 else plan.timing.silence };
+  timing = record plan.timing { silence_ms = if is_over then 1 else plan.timing.silence_ms };
 }
 
 -- the books are those of a node's incarnations in their order: of the node, of rising numbers from `first` on, and below `next`

@@ -12,11 +12,11 @@ pub fn plan_of_incarnation(plan: Plan, restarts: u8, is_over: bool) -> Plan
     ensures { result ≡ incarnation_plan plan restarts is_over }
 {
     // (the registry may be gone by then, so a later incarnation doesn't wait for packets that nobody sends)
-    let silence = if is_over { 1 } else { plan.timing.silence };
+    let silence_ms = if is_over { 1 } else { plan.timing.silence_ms };
     Plan {
         turns: plan.turns / (u64::from(restarts) + 1),
         timing: Timing {
-            silence,
+            silence_ms,
             ..plan.timing
         },
         ..plan

@@ -26,18 +26,20 @@ mod site_run;
 mod turns;
 mod worker;
 
-pub use actor::asks_in_vain;
-pub use idleness::{IdleTurn, Idleness};
-pub use node::{run_node, run_root};
 pub use node_end::NodeEnd;
-pub use own_time::OwnTime;
 pub use run::{RunEnd, run_sites};
-pub use savings::{Savings, Shown};
-pub use schedule::Schedule;
-pub use seat_receipts::SeatReceipts;
-pub use signals::Signals;
 pub use site_limits::{
     BookBytes, EndCause, Follower, Gate, Hunger, Open, Pace, Plan, Quota, SiteEnd, Timing,
 };
 pub use site_network::{Link, LinkFault, MemoryLink, Sockets, UdpLink, Wires, bound};
+
+// (for tests alone)
+pub use actor::asks_in_vain;
+pub use idleness::{IdleTurn, Idleness};
+pub use node::{run_node, run_root};
+pub use own_time::OwnTime;
+pub use savings::{Savings, Shown};
+pub use schedule::Schedule;
+pub use seat_receipts::SeatReceipts;
+pub use signals::Signals;
 pub use worker::room_for;

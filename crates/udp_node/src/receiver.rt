@@ -44,7 +44,7 @@ pub struct Receiver<L: Link> {
     now: u64,
     /// How many receives in a row failed.
     faults: u32,
-    /// How many datagrams were no packets; the greatest number stays.
+    /// How many datagrams weren't heard: strangers' ones, and what is no packet. The greatest number stays.
     dropped: u64,
     /// What the site has entered and need not receive again.
     entered: EnteredGifts,
@@ -64,7 +64,7 @@ impl<L: Link> Receiver<L> {
         }
     }
 
-    /// How many datagrams were no packets, and how many receives failed.
+    /// How many datagrams weren't heard, and how many receives failed.
     pub fn counts(&self) -> (u64, u64) {
         (self.dropped, self.link.failures())
     }
@@ -95,7 +95,7 @@ impl<L: Link> Receiver<L> {
     fn fail(&mut self) -> Turn {
         self.faults = self.faults.saturating_add(1);
         if self.faults < FAULTS {
-            Turn::Used
+            Turn::Counted
         } else {
             Turn::Ended(EndCause::Faults)
         }
@@ -104,7 +104,7 @@ impl<L: Link> Receiver<L> {
     /// Counts a datagram that is no packet.
     fn drop_datagram(&mut self) -> Turn {
         self.dropped = self.dropped.saturating_add(1);
-        Turn::Waited
+        Turn::Free
     }
 
     /// What a turn came to; the thread ends where the site is to end by this cause, or nothing shows the run going on
@@ -175,12 +175,12 @@ impl<
             return self.receiver.ended_by(cause);
         }
         let greeted = self.greet();
-        if greeted != Turn::Used {
+        if greeted != Turn::Counted {
             return greeted;
         }
         match self.receive() {
-            Turn::Used => self.say_again(Turn::Used),
-            Turn::Waited => self.say_again(Turn::Waited),
+            Turn::Counted => self.say_again(Turn::Counted),
+            Turn::Free => self.say_again(Turn::Free),
             turn => turn,
         }
     }
@@ -204,7 +204,7 @@ impl<
     fn greet(&mut self) -> Turn {
         let (node, now) = (self.actor.shared.cell.site().node, self.receiver.now);
         if node == 0 || !self.receiver.schedule.greet_if_due(now) {
-            return Turn::Used;
+            return Turn::Counted;
         }
         after(self.actor.act(self.rt, Event::Greet))
     }
@@ -223,7 +223,7 @@ impl<
             Err(LinkFault) => self.receiver.fail(),
         };
         match turn {
-            Turn::Used | Turn::Waited => self.receiver.unless_it_ends(turn, ending, is_empty),
+            Turn::Counted | Turn::Free => self.receiver.unless_it_ends(turn, ending, is_empty),
             Turn::Starved | Turn::Ended(_) => turn,
         }
     }
@@ -246,7 +246,7 @@ impl<
             self.receiver.schedule.hear(now);
         }
         if self.receiver.entered.has_all(site, &packet) {
-            return Turn::Waited;
+            return Turn::Free;
         }
         self.deliver(packet)
     }
@@ -274,7 +274,7 @@ impl<
             self.receiver.schedule.end(now);
             self.receiver.link.hasten();
         }
-        Turn::Used
+        Turn::Counted
     }
 
     /// Says again what may be lost, if it is time to, after a turn that came to this.
@@ -284,7 +284,7 @@ impl<
             return turn;
         }
         match after(self.actor.act(self.rt, Event::Again)) {
-            Turn::Used | Turn::Waited => turn,
+            Turn::Counted | Turn::Free => turn,
             ended => ended,
         }
     }
@@ -293,7 +293,7 @@ impl<
 /// Waits a little after an empty receive.
 fn nap<R: Wait + Clock>(rt: &R) -> Turn {
     thread::sleep(rt, Duration::from_micros(NAP));
-    Turn::Waited
+    Turn::Free
 }
 
 /// Whether a site of this node, where it puts these packets out, has published an answer: the registry accepts none but

@@ -51,8 +51,8 @@ impl Schedule {
     /// That of a thread which begins now, at a site whose threads have so many turns, and which another incarnation
     /// follows or not.
     pub fn new(timing: Timing, turns: u64, is_last: bool) -> Schedule {
-        let lasts = turns.saturating_mul(timing.turn.saturating_mul(MILLI));
-        let pause = timing.again.saturating_mul(MILLI);
+        let lasts = turns.saturating_mul(timing.turn_ms.saturating_mul(MILLI));
+        let pause = timing.again_ms.saturating_mul(MILLI);
         Schedule {
             timing,
             end_of_time: if is_last {
@@ -80,7 +80,7 @@ impl Schedule {
         if now < self.next_greeting {
             return false;
         }
-        self.next_greeting = now.saturating_add(self.timing.greeting.saturating_mul(MILLI));
+        self.next_greeting = now.saturating_add(self.timing.greeting_ms.saturating_mul(MILLI));
         true
     }
 
@@ -91,7 +91,7 @@ impl Schedule {
 
     /// Whether none came for long.
     pub fn is_silent(&self, now: u64) -> bool {
-        now.saturating_sub(self.last_heard) >= self.timing.silence.saturating_mul(MILLI)
+        now.saturating_sub(self.last_heard) >= self.timing.silence_ms.saturating_mul(MILLI)
     }
 
     /// Answers whether what may be lost is to be said again now, where so much was said in all. It counts as said again
@@ -102,7 +102,7 @@ impl Schedule {
     pub fn repeat_if_due(&mut self, now: u64, said: u64) -> bool {
         if said != self.said {
             self.said = said;
-            self.pause = self.timing.again.saturating_mul(MILLI);
+            self.pause = self.timing.again_ms.saturating_mul(MILLI);
             self.next_repeat = self.next_repeat.min(now.saturating_add(self.pause));
         }
         if now < self.next_repeat {
@@ -119,7 +119,7 @@ impl Schedule {
         if self.is_over() {
             return END_PAUSE;
         }
-        let latest = self.timing.latest_again.saturating_mul(MILLI);
+        let latest = self.timing.latest_again_ms.saturating_mul(MILLI);
         self.pause.saturating_mul(2).min(latest)
     }
 

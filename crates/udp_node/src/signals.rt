@@ -163,7 +163,7 @@ impl Signals {
         self.stirs.load(Ordering::SeqCst)
     }
 
-    /// Whether work is short at the site.
+    /// What says whether work is short at the site.
     pub fn hunger(&self) -> &Hunger {
         &self.hunger
     }

@@ -13,7 +13,7 @@ use crate::looks::Looks;
 use crate::savings::{Savings, Shown};
 use crate::seat_receipts::Refused;
 use crate::turns::note_turn;
-use brancher::{Finding, Outcome, Searcher, TABLE_BYTES};
+use brancher::{Finding, Outcome, STATE_BYTES, Searcher};
 use cover_problem::Numbers;
 use node_core::{ActFault, Core, Event, Reply};
 use rand_core::utils::NextWord;
@@ -123,7 +123,7 @@ impl<'r, 't, 's, J: Run, C: Core + Drop, N: CellName, H: Gate + Follower, R: Wai
             // (only with nothing in hand: a job that was taken up is known to no other worker)
             Hand::Nothing if self.actor.shared.signals.is_spared(self.number) => {
                 self.actor.shared.signals.wait_spared(self.rt, self.number);
-                Turn::Waited
+                Turn::Free
             }
             Hand::Nothing => self.take(),
             Hand::Search(search_job) => self.search(search_job),
@@ -176,9 +176,9 @@ impl<'r, 't, 's, J: Run, C: Core + Drop, N: CellName, H: Gate + Follower, R: Wai
                     .shared
                     .signals
                     .wait_idle(self.rt, self.number, nap);
-                Turn::Waited
+                Turn::Free
             }
-            IdleTurn::Passes => Turn::Waited,
+            IdleTurn::Passes => Turn::Free,
         }
     }
 
@@ -298,7 +298,7 @@ impl<'r, 't, 's, J: Run, C: Core + Drop, N: CellName, H: Gate + Follower, R: Wai
         let hooks = self.actor.shared.context.hooks;
         if !hooks.pass(self.number, &searched.job) {
             self.hand = Hand::Post(searched);
-            return Turn::Used;
+            return Turn::Counted;
         }
         let Searched {
             job,
@@ -312,7 +312,7 @@ impl<'r, 't, 's, J: Run, C: Core + Drop, N: CellName, H: Gate + Follower, R: Wai
                     self.actor.shared.signals.hunger().feed();
                 }
                 hooks.posted(self.number, &job);
-                Turn::Used
+                Turn::Counted
             }
             Err(back) => {
                 let (event, refused) = back;
@@ -330,7 +330,7 @@ impl<'r, 't, 's, J: Run, C: Core + Drop, N: CellName, H: Gate + Follower, R: Wai
                 let limit = self.limit.saturating_mul(16);
                 let prefix = Numbers::from_vec(prefix);
                 self.hand = Hand::Search(SearchJob::new(job, prefix, limit));
-                Turn::Used
+                Turn::Counted
             }
             Err(_) => Turn::Ended(EndCause::Memory),
         }
@@ -371,7 +371,7 @@ fn workers_of(plan: Plan) -> u64 {
 /// The room for states that one searcher of the run has: all of them together have what four searches by one thread
 /// have.
 pub fn room_for(plan: Plan) -> u64 {
-    (4 * TABLE_BYTES / workers_of(plan).max(1)).min(TABLE_BYTES)
+    (4 * STATE_BYTES / workers_of(plan).max(1)).min(STATE_BYTES)
 }
 
 /// Whether a thread ends whose event was refused, and why.
@@ -383,14 +383,14 @@ pub fn after_refusal(refused: Refused) -> Turn {
         Refused::Cell(BookFault::Core(ActFault::Over)) => Turn::Ended(EndCause::Over),
         Refused::Cell(BookFault::Memory) => Turn::Starved,
         // (nothing changed: packets that come late, and results of jobs that were aborted meanwhile, are refused)
-        Refused::Cell(_) => Turn::Used,
+        Refused::Cell(_) => Turn::Counted,
     }
 }
 
 /// The same of an event that may have been entered.
 pub fn after(acted: Result<Step, (Event, Refused)>) -> Turn {
     match acted {
-        Ok(_step) => Turn::Used,
+        Ok(_step) => Turn::Counted,
         Err(back) => after_refusal(back.1),
     }
 }

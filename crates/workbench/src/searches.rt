@@ -3,7 +3,7 @@
 //! `bench/searches.py` times it.
 
 use crate::words::text_of;
-use brancher::{Outcome, Searcher, TABLE_BYTES, Tables};
+use brancher::{Outcome, STATE_BYTES, Searcher, Tables};
 use cover_problem::Problem;
 use dlx_reader::read_problem;
 use std::alloc::{AllocError, Global};
@@ -48,7 +48,7 @@ fn searcher_over<'a>(
     is_kept: bool,
 ) -> Result<Searcher<'a>, AllocError> {
     if is_kept {
-        Searcher::keeping(alloc, tables, TABLE_BYTES)
+        Searcher::keeping(alloc, tables, STATE_BYTES)
     } else {
         Searcher::of_tables(alloc, tables)
     }

@@ -124,7 +124,8 @@ pub fn simulate_source<R: Source, W: Sink>(
 }
 
 /// Reads a problem to its end, lets a world of sites search it by chance, as the settings say, and writes the answer
-/// that it publishes, or `no answer` where it publishes none.
+/// that it publishes, or `no answer` where it publishes none. Only tests call this: the program calls
+/// `simulate_source`.
 ///
 /// # Errors
 ///

@@ -7,7 +7,7 @@
 
 use super::written::{Narrow, SEVEN};
 use super::{AGREED, COLOURS, IDLE, PAIRS, ROOM};
-use brancher::{TABLE_BYTES, Tables, Unwatched};
+use brancher::{STATE_BYTES, Tables, Unwatched};
 use certificate_writer::CaseWriter;
 use cover_certificates::{Checked, check_certificate};
 use cover_reasons::find_reason;
@@ -35,7 +35,7 @@ fn search(
 ) -> Option<Searched> {
     let read = read_problem(alloc, problem.as_bytes()).ok()?;
     let tables = Tables::build(alloc, &read.problem).ok()?;
-    let mut decider = Decider::new(alloc, &tables, TABLE_BYTES).ok()?;
+    let mut decider = Decider::new(alloc, &tables, STATE_BYTES).ok()?;
     let (decision, is_whole) = {
         let sink = CountedWriter::new(Narrow {
             text: &mut *text,

@@ -104,7 +104,7 @@ fn jobs_grow(rt: HostRuntime) -> Result<(), Fail> {
     let script = root_after(rt.alloc(), 0)?;
     let room = Room {
         timing: Timing {
-            silence: 4_000,
+            silence_ms: 4_000,
             ..SOON
         },
         names: 1_000_000,
@@ -142,7 +142,7 @@ fn an_idle_worker_stays(rt: HostRuntime) -> Result<(), Fail> {
     let room = Room {
         turns: 1_000,
         timing: Timing {
-            silence: 3_000,
+            silence_ms: 3_000,
             ..SOON
         },
         ..ROOM

@@ -49,7 +49,7 @@ fn any_number_of_nodes_and_workers(rt: HostRuntime) -> Result<(), Fail> {
 fn packets_leave_at_once(rt: HostRuntime) -> Result<(), Fail> {
     let plan = Plan {
         timing: Timing {
-            silence: 10_000,
+            silence_ms: 10_000,
             ..SOON
         },
         ..plan_of(5)

@@ -105,8 +105,8 @@ fn an_incarnation_that_hears_nothing_ends_after_its_turns(rt: HostRuntime) -> Re
         turns: 500,
         restarts: 1,
         timing: Timing {
-            greeting: 300,
-            silence: 1_500,
+            greeting_ms: 300,
+            silence_ms: 1_500,
             ..SOON
         },
         ..PLAN

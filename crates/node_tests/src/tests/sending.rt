@@ -1,4 +1,5 @@
-//! A node whose link takes its time: what is sent holds up neither the core nor what is received.
+//! A node whose link takes its time: what is sent holds up neither the core nor what is received. And no packet is too
+//! long to be sent.
 //!
 //! Of the bugs of `udp_node` that are kept outside the gate, `send_holds_no_lock` finds `send_holds_up_receive`.
 
@@ -9,7 +10,9 @@ use super::timings::SOON;
 use cover_problem::Problem;
 use dlx_reader::read_problem;
 use node_core::{Core, Event, NodeCore};
+use packet_wire::LONGEST_PACKET;
 use run_book::{CellName, CellParts, Run, SiteCell, cores_step_as_their_sites};
+use site_network::LONGEST_DATAGRAM;
 use spawn_frame::Site;
 use std::alloc::{AllocError, Global};
 use std::marker::Brand;
@@ -31,7 +34,7 @@ const PLAN: Plan = Plan {
     seed: 1,
     turns: 500,
     timing: Timing {
-        silence: 2_000,
+        silence_ms: 2_000,
         ..SOON
     },
     entries: 1_000_000,
@@ -241,4 +244,9 @@ fn send_holds_no_lock(rt: HostRuntime) -> Result<(), Fail> {
     let came = run_slow(&rt, rt.alloc(), &read.problem, &meeting)?;
     assert_eq!(rt; (came, meeting.is_kept()), (Some(2), true));
     Ok(())
+}
+
+#[test]
+fn the_longest_packet_fits_into_a_datagram(rt: HostRuntime) {
+    assert_eq!(rt; LONGEST_DATAGRAM, LONGEST_PACKET + 1);
 }

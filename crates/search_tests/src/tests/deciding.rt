@@ -8,7 +8,7 @@ ghost use Rattle.std.specs.Prelude.{true};
 
 use super::keeping::{BOARD_OF_8, BOARD_OF_12};
 use super::texts::problem_of;
-use brancher::{TABLE_BYTES, Tables, Watch};
+use brancher::{STATE_BYTES, Tables, Watch};
 use decider::{Decider, Decision};
 use std::alloc::Global;
 use std::process::Abort;
@@ -30,7 +30,7 @@ impl Watch for Looking {
 
 /// Whether a search over these tables sees that there is no cover before its watch has looked so often.
 fn sees_none(alloc: Global, tables: &Tables<'_>, looks: u64) -> bool {
-    let Ok(mut decider) = Decider::new(alloc, tables, TABLE_BYTES) else {
+    let Ok(mut decider) = Decider::new(alloc, tables, STATE_BYTES) else {
         return false;
     };
     let mut watch = Looking { left: looks };

@@ -12,7 +12,7 @@ ghost use Rattle.std.specs.Prelude.{◌≤◌, true};
 
 use super::search::{SEARCHES, takes};
 use super::texts::{LETTERS, problem_of};
-use brancher::{Outcome, Searcher, TABLE_BYTES, Tables, Unwatched, Watch};
+use brancher::{Outcome, STATE_BYTES, Searcher, Tables, Unwatched, Watch};
 use cover_problem::Problem;
 use std::alloc::Global;
 use std::process::Abort;
@@ -88,7 +88,7 @@ fn take_keeping<R: Abort>(
 #[test]
 fn kept_states_change_no_search(rt: HostRuntime) {
     for (number, (text, visits, first)) in SEARCHES.iter().enumerate() {
-        let is_so = take_keeping(&rt, rt.alloc(), text, TABLE_BYTES, *visits, first);
+        let is_so = take_keeping(&rt, rt.alloc(), text, STATE_BYTES, *visits, first);
         assert!(rt; is_so, "search {number}");
     }
 }
@@ -146,7 +146,7 @@ const VISITS_OF_12: u64 = 1_455_115_025_598_703;
 /// Whether the search of the board over these tables comes to an end within 200,000 visits that it makes, and counts
 /// all. (With a table that never grows it would make some 370,000.)
 fn is_searched_whole(alloc: Global, tables: &Tables<'_>) -> bool {
-    match came_to(alloc, tables, TABLE_BYTES, 200_000) {
+    match came_to(alloc, tables, STATE_BYTES, 200_000) {
         Some(Some((outcome, _made, gone))) => outcome == Outcome::Barren && gone == VISITS_OF_12,
         Some(None) | None => false,
     }
@@ -162,7 +162,7 @@ fn a_board_of_twelve_by_twelve_is_searched_whole(rt: HostRuntime) {
         is_searched_whole(alloc, &Tables::of_links(&problem)),
         "by links"
     );
-    assert!(rt; take_keeping(&rt, alloc, BOARD_OF_12, TABLE_BYTES, VISITS_OF_12, &[]));
+    assert!(rt; take_keeping(&rt, alloc, BOARD_OF_12, STATE_BYTES, VISITS_OF_12, &[]));
 }
 
 /// Few slots are enough for the board of eight by eight, if states of more visits stay longer than others.
@@ -178,27 +178,27 @@ fn what_took_many_visits_is_kept(rt: HostRuntime) {
 
 /// Problems without a cover, rooms for states, after how many visits the search is stopped, and what it came to.
 static STOPPED: [(&str, u64, u64, Came); 8] = [
-    (BOARD_OF_6, TABLE_BYTES, 0, None),
-    (BOARD_OF_6, TABLE_BYTES, 1, Some((Outcome::Spent, 1, 1))),
-    (BOARD_OF_6, TABLE_BYTES, 20, Some((Outcome::Spent, 20, 20))),
+    (BOARD_OF_6, STATE_BYTES, 0, None),
+    (BOARD_OF_6, STATE_BYTES, 1, Some((Outcome::Spent, 1, 1))),
+    (BOARD_OF_6, STATE_BYTES, 20, Some((Outcome::Spent, 20, 20))),
     (BOARD_OF_6, 0, 944, Some((Outcome::Spent, 944, 944))),
     (BOARD_OF_6, 0, 945, Some((Outcome::Barren, 945, 945))),
     // (in these nothing repeats: the first trial is over then)
     (
         TORUS_QUEENS,
-        TABLE_BYTES,
+        STATE_BYTES,
         5_000,
         Some((Outcome::Spent, 5_000, 5_000)),
     ),
     (
         TORUS_QUEENS,
-        TABLE_BYTES,
+        STATE_BYTES,
         21_797,
         Some((Outcome::Spent, 21_797, 21_797)),
     ),
     (
         TORUS_QUEENS,
-        TABLE_BYTES,
+        STATE_BYTES,
         u64::MAX,
         Some((Outcome::Barren, 21_798, 21_798)),
     ),
@@ -253,7 +253,7 @@ fn a_plain_search_tells_what_it_made(rt: HostRuntime) {
 /// How many visits a searcher says that a search of the empty prefix takes, stopped after so many visits or not; none
 /// where it doesn't see that there is no cover.
 fn seen<R: Abort>(rt: &R, alloc: Global, tables: &Tables<'_>, visits: Option<u64>) -> Option<u64> {
-    let mut searcher = Searcher::keeping(alloc, tables, TABLE_BYTES).expect(rt, "memory");
+    let mut searcher = Searcher::keeping(alloc, tables, STATE_BYTES).expect(rt, "memory");
     match visits {
         Some(visits) => searcher.barren_visits(&[], &mut Stopping { visits, made: 0 }),
         None => searcher.barren_visits(&[], &mut Unwatched),
@@ -264,10 +264,10 @@ fn seen<R: Abort>(rt: &R, alloc: Global, tables: &Tables<'_>, visits: Option<u64
 /// say, and how many it made to see that; none where memory ran out, or one of them sees nothing.
 fn shared(alloc: Global, tables: &Tables<'_>) -> Option<(u64, u64, u64)> {
     // (both here: what the first one says is what the other one may be told)
-    let Ok(mut one) = Searcher::keeping(alloc, tables, TABLE_BYTES) else {
+    let Ok(mut one) = Searcher::keeping(alloc, tables, STATE_BYTES) else {
         return None;
     };
-    let Ok(mut other) = Searcher::keeping(alloc, tables, TABLE_BYTES) else {
+    let Ok(mut other) = Searcher::keeping(alloc, tables, STATE_BYTES) else {
         return None;
     };
     let count = one.barren_visits(&[], &mut Unwatched)?;

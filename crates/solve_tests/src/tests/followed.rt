@@ -7,7 +7,7 @@
 
 ghost use Rattle.std.specs.Prelude.{◌≤◌};
 
-use brancher::{Finding, Searcher, TABLE_BYTES, Tables, Unwatched};
+use brancher::{Finding, STATE_BYTES, Searcher, Tables, Unwatched};
 use cover_engines::{FollowedRun, QuietRun};
 use cover_problem::{Problem, is_prefix};
 use dlx_reader::{CountedWriter, Sink, read_problem};
@@ -213,7 +213,7 @@ fn counted(alloc: Global, fuel: u64) -> Result<Finding, Fail>
     let text = uncounted_text(alloc)?;
     let read = read_problem(alloc, text.as_bytes())?;
     let tables = Tables::build(alloc, &read.problem)?;
-    let mut searcher = Searcher::keeping(alloc, &tables, TABLE_BYTES)?;
+    let mut searcher = Searcher::keeping(alloc, &tables, STATE_BYTES)?;
     match searcher.find_so_far(Vec::new(alloc), fuel, &mut Unwatched) {
         Ok(Some((finding, _))) => Ok(finding),
         _ => Err(Fail::new("the search came to nothing")),

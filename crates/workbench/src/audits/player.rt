@@ -4,7 +4,7 @@ ghost use Rattle.std.specs.Prelude.{◌≡◌, IfOk, IfSome};
 ghost use Rattle.node_core.specs.Refusal.{IsFit};
 
 use crate::audits::fault::TrialFault;
-use brancher::{Finding, Searcher, TABLE_BYTES, Tables};
+use brancher::{Finding, STATE_BYTES, Searcher, Tables};
 use cover_problem::{Problem, is_prefix};
 use node_core::Event;
 use packet_wire::is_well_formed;
@@ -31,7 +31,7 @@ impl<'a, J: Run> Player<'a, J> {
         requires { tables.now ≡ J.run.problem }
     {
         Ok(Player {
-            searcher: Searcher::keeping(alloc, tables, TABLE_BYTES)?,
+            searcher: Searcher::keeping(alloc, tables, STATE_BYTES)?,
             problem: tables.problem(),
             alloc,
             run: PhantomData,

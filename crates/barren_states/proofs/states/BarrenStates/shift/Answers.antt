@@ -7,7 +7,7 @@ use Rattle.barren_states.proofs.states.BarrenStates.shift.Goals as goal
 pub returns-clause-held : goal.returns-clause-held
 returns-clause-held c =
     let t = c.self.inside in
-    let key : c.deref-3.result.now ≡ c.copy-visits.new.key = c.deref-3.ensures.value ∙ with_items_is c.self.inside.spare c.copy-visits.new.key (omega (arith, c.copy-visits.auto.key, c.deref_mut.ensures.len)) in
+    let key : c.deref-3.result.now ≡ c.copy-visits.new.key = c.deref-3.ensures.value ∙ with_items_is c.self.inside.moved_key c.copy-visits.new.key (omega (arith, c.copy-visits.auto.key, c.deref_mut.ensures.len)) in
     let P : States → Type 0 = λ s. HoldsNoMore s c.write-2.new.self in
     let K : List ℕ → Type 0 = λ k. Holds c.self.inside.slots k c.copy-visits.result in
     let was = subst K (sym key) (c.copy-visits.ensures (omega (arith, c.if-visits-eq0.false))) in
