@@ -34,6 +34,7 @@ from zarfepoch import Clique, Colored, Problem, Reason
 from zarfepoch.commands import COMMANDS
 from zarfepoch.files.cover_files import read_problem
 from zarfepoch.problems import RunningQuestion
+from zarfepoch.programs import UnprovedNote
 from zarfepoch.reasons.even_room import any_reason, even_room, greatest
 from zarfepoch.search.all_covers import Covers, Question
 from zarfepoch.search.parts import Prefix, Tree
@@ -311,8 +312,8 @@ def test_all_by_both() -> None:
         assert len(set(listed)) == len(listed) and set(listed) == known, f"all covers of {list(problem)} by both: {listed}"
         questions += len(asked)
         if seed < 50:
-            program = os.environ["ZARFEPOCH"]
-            listed = list(Slow(tree, lambda prefix: RunningQuestion(program, tree, prefix), 0.001, draw).each())
+            program, note = os.environ["ZARFEPOCH"], UnprovedNote()
+            listed = list(Slow(tree, lambda prefix: RunningQuestion(program, tree, prefix, note), 0.001, draw).each())
             assert len(set(listed)) == len(listed) and set(listed) == known, f"all covers of {list(problem)} by the program: {listed}"
     assert questions > 1000 and min(counts[True], counts[False]) > 20, f"enough of each: {questions} {counts}"
 

@@ -60,7 +60,7 @@ from .pictures.kinds import in_words, picture_of
 from .pictures.plan_files import add_tables, with_plans, write_plans
 from .pictures.svg_paper import Paper
 from .problems import RunningQuestion
-from .programs import answer_of, find_program, own_words, ProgramAnswer
+from .programs import answer_of, find_program, own_words, ProgramAnswer, UnprovedNote
 from .puzzles.kinds import kinds_listed, kinds_of, problems_of
 from .puzzles.mistyped import SECONDS as CHANGE_SECONDS, change_lines
 from .reasons.even_room import any_reason
@@ -278,8 +278,8 @@ def all_solutions(program: str, puzzle: Puzzle, problem: Problem, given: Namespa
     """Draws or counts all solutions of a puzzle; the exit status."""
     if given.out:
         stop("--out draws one solution, so it doesn't go with --all and --count")
-    tree, count, began = Tree(problem), 0, time.monotonic()
-    found = Covers(tree, lambda prefix: RunningQuestion(program, tree, prefix)).each(given.seconds)
+    tree, note, count, began = Tree(problem), UnprovedNote(), 0, time.monotonic()
+    found = Covers(tree, lambda prefix: RunningQuestion(program, tree, prefix, note)).each(given.seconds)
     try:
         # (each solution that is drawn says that the search goes on)
         with contextlib.closing(found), contextlib.nullcontext() if given.all else told_waiting(lambda: f": {plural(count, 'solution')} so far"):

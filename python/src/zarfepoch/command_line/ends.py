@@ -6,7 +6,8 @@ import os
 import signal
 import sys
 import traceback
-from typing import Callable, NoReturn, Union
+import warnings
+from typing import Callable, NoReturn, Optional, TextIO, Union
 
 from .words import as_called
 
@@ -25,6 +26,12 @@ def stop(why: object, status: int = 2) -> NoReturn:
     sys.exit(status)
 
 
+def show_warning(message: Union[Warning, str], category: type[Warning], filename: str, lineno: int,
+                 file: Optional[TextIO] = None, line: Optional[str] = None) -> None:
+    """Writes a warning as a line of the command's own, without the place in the code that is of no use to its users."""
+    complain(message)
+
+
 def status_of(main: Callable[[], Status]) -> Status:
     """The exit status of a main function, whether it returns it or ends the script."""
     try:
@@ -38,7 +45,8 @@ def run(main: Callable[[], Status]) -> NoReturn:
 
     A reader that goes away, as `head` does, ends it quietly, with status 3. Where the standard output is closed or
     takes no more, or memory runs out, standard error has a line, too. A mistake of the script's own is never status 1,
-    which would be an answer. A signal that ends it also ends the program that it runs; an interrupt is told nowhere.
+    which would be an answer. A signal that ends it also ends the program that it runs; an interrupt is told nowhere. A
+    warning of the package is a line on standard error.
     """
     if signal.getsignal(signal.SIGINT) is signal.SIG_DFL:
         # (what starts a command leaves interrupts to the system until its modules are read)
@@ -49,6 +57,9 @@ def run(main: Callable[[], Status]) -> NoReturn:
         sys.exit(3)
     if isinstance(sys.stdout, io.TextIOWrapper):
         sys.stdout.reconfigure(errors="backslashreplace")
+    # (each text once, whatever the environment has Python do with warnings)
+    warnings.simplefilter("once", UserWarning)
+    warnings.showwarning = show_warning
     try:
         status = status_of(main)
         sys.stdout.flush()
