@@ -87,6 +87,31 @@ def test_reader_that_goes_away(name: str) -> None:
     assert (ended.returncode, ended.stderr) == (3, b""), f"{name}: {ended}"
 
 
+# what pip and scripts/install.sh put on the path: a command by its name
+INSTALLED = "import sys; sys.argv[0] = '/some/path/{}'; from zarfepoch.commands import *; command_of(COMMANDS['{}'])()"
+
+
+@pytest.mark.parametrize("name", COMMANDS)
+def test_usage_as_typed(name: str) -> None:
+    """The usage of a command begins with the words that were typed, and so does what it says on standard error."""
+    tool = name.split("-", 1)[1:]
+    typed = {"scripts/zarfepoch": [LAUNCHER], "zarfepoch": ["-c", INSTALLED.format("zarfepoch", "zarfepoch")]}
+    calls = [(" ".join([before, *tool]), [*call, *tool]) for before, call in typed.items()]
+    for words, call in [*calls, (name, ["-c", INSTALLED.format(name, name)])]:
+        ended = subprocess.run([sys.executable, *call, "--no-such-option"], capture_output=True, text=True)
+        told = ended.stderr.startswith(f"usage: {words} [-h] ") and f"\n{words}: error: " in ended.stderr
+        assert (ended.returncode, ended.stdout) == (2, "") and told, f"{words}: {ended}"
+
+
+def test_complaint_as_typed() -> None:
+    """A command without a usage line names itself as it was typed, too."""
+    for before, call in (("scripts/zarfepoch", [LAUNCHER]), ("zarfepoch", ["-c", INSTALLED.format("zarfepoch", "zarfepoch")])):
+        for word, told in (("sudoku", before), ("why-none", f"{before} why-none")):
+            ended = subprocess.run([sys.executable, *call, word, "no-such-file"], capture_output=True, text=True)
+            is_told = ended.stderr.startswith(f"{told}: no-such-file can't be read: ")
+            assert ended.returncode == 3 and is_told, f"{word}: {ended}"
+
+
 @pytest.mark.parametrize("text, told", (
     (b"a b\na c\n", "no item is named c"), (b"", "no line names items"), (b"| a\n", "no line names items"),
     (b"a\n\xff\n", "no item is named \\xff"), (None, "can't be read: No such file or directory")))

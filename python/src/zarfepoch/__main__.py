@@ -10,6 +10,7 @@ from typing import Any, Optional
 
 from . import Colored, Word, solve
 from .command_line.ends import run, Status, stop
+from .command_line.words import called
 from .commands import COMMANDS, command_of
 from .files.whole_files import Unreadable, read_bytes
 from .solved import command_line, kind_missing, solve_kind
@@ -58,7 +59,8 @@ def solve_json(text: bytes, seconds: Optional[float] = None) -> Optional[list[in
 def main() -> Status:
     tool = "-".join(["zarfepoch", *sys.argv[1:2]])
     if sys.argv[1:] and tool in COMMANDS:
-        sys.argv[:2] = [tool]
+        # (both words stand for the tool, in its usage too)
+        sys.argv[:2] = [f"{called()} {sys.argv[1]}"]
         command_of(COMMANDS[tool])()
     given = command_line().parse_args()
     if given.kind and given.json:

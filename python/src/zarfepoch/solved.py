@@ -47,7 +47,7 @@ from collections.abc import Callable, Iterator
 from typing import Optional
 
 from .command_line.ends import complain, stop
-from .command_line.words import as_called, parser_of
+from .command_line.words import as_called, called, parser_of
 from .command_line.written import keep_what_is_read
 from .commands import COMMANDS
 from .errors import NoProgram, OutOfMemory, ProgramError, TimeIsUp
@@ -371,4 +371,4 @@ def solve_kind(given: Namespace, words: list[str]) -> int:
 
 
 def kind_missing() -> str:
-    return as_called("a KIND is missing, as in: zarfepoch sudoku FILE; zarfepoch-generate --help describes all of them")
+    return as_called(f"a KIND is missing, as in: {called()} sudoku FILE; zarfepoch-generate --help describes all of them")

@@ -9,7 +9,7 @@ import traceback
 import warnings
 from typing import Callable, NoReturn, Optional, TextIO, Union
 
-from .words import as_called
+from .words import as_called, called
 
 Status = Union[int, str, None]
 
@@ -17,7 +17,7 @@ Status = Union[int, str, None]
 def complain(why: object) -> None:
     """Writes a line on standard error, if that is open."""
     if sys.stderr is not None:
-        print(as_called(f"{os.path.basename(sys.argv[0]).removesuffix('.py')}: {why}"), file=sys.stderr)
+        print(as_called(f"{called()}: {why}"), file=sys.stderr)
 
 
 def stop(why: object, status: int = 2) -> NoReturn:
