@@ -73,7 +73,8 @@ def in_files(trial: Solving, words: list[str]) -> list[str]:
     (["sudoku", UNIQUE], ONLY), (["sudoku", "." * 16], OTHER), (["langford", "3"], OTHER), (["queens", "1"], ONLY), (["queens", "6"], OTHER),
     (["killer", os.path.join(TOP, "examples", "killer.txt")], ONLY), (["sudoku", os.path.join(TOP, "examples", "sudoku.txt")], ONLY),
     (["crossword", "..\n#.\n", "ab bc\n"], ONLY), (["crossword", "..\n#.\n", "ab bc bd\n"], OTHER), (["nonogram", "1\n3\n1\n\n1\n3\n1\n"], ONLY),
-    (["nonogram", "1\n1\n\n1\n1\n"], OTHER)), ids=ascii)
+    (["nonogram", "1\n1\n\n1\n1\n"], OTHER), (["nonogram", "1,,\n3,,\n1,,\n,,\n1,,\n3,,\n1,,\n,,\n"], ONLY),
+    (["nonogram", "1;\r\n1;\r\n ; \r\n1;\r\n1;\r\n"], OTHER)), ids=ascii)
 def test_only_ones(trial: Solving, words: list[str], told: str) -> None:
     """Whether an answer is the only one."""
     words = in_files(trial, words)

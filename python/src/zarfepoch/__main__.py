@@ -63,11 +63,11 @@ def main() -> Status:
         sys.argv[:2] = [f"{called()} {sys.argv[1]}"]
         command_of(COMMANDS[tool])()
     given = command_line().parse_args()
-    if given.kind and given.json:
+    if given.kind and given.json is not None:
         stop("--json FILE stands for a KIND, and both are given")
     if given.kind:
         return solve_kind(given, sys.argv[1:])
-    if not given.json:
+    if given.json is None:
         stop(kind_missing())
     try:
         answer = solve_json(read_bytes(given.json), given.seconds)
