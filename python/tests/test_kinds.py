@@ -280,6 +280,9 @@ def test_all_solutions(trial: Solving) -> None:
     status, lines, _ = trial.run("queens", "20", "--count", "--seconds", "1")
     told = r"There are at least [\d,]+ solutions: the time was over before the end."
     assert status == 0 and re.fullmatch(told, lines[0]), f"too many: {lines}"
+    status, lines, _ = trial.run("queens", "20", "--all", "--seconds", "0.000001")
+    told = "No solution was found: the time was over before the end."
+    assert (status, lines) == (4, [told]), f"none in time: {lines}"
     assert trial.run("queens", "4", "--all", "--out", trial.path("all.svg"))[0] == 2, "a picture of all"
     told = "\n".join(trial.run("--help")[1])
     assert all(re.search(rf"\b{kind}\b", told) for kind in ("queens", "kenken", "word-square", "timetable", "cubes")), "all kinds in the help"

@@ -126,6 +126,16 @@ def test_problems_without_a_certificate(tmp_path: pathlib.Path, text: Optional[b
     assert (ended.returncode, ended.stdout) == (3, "") and is_told, f"{text!r}: {ended}"
 
 
+@pytest.mark.parametrize("words", (
+    "another - -", "another FILE - -", "check-reason - -", "draw - -", "explain - -"))
+def test_standard_input_twice(words: str) -> None:
+    """What a command would find the second time is no empty file, of which it could say anything."""
+    call = [os.path.join(EXAMPLES, "letters.dlx") if word == "FILE" else word for word in words.split()]
+    ended = subprocess.run([sys.executable, LAUNCHER, *call], input="cover 0\n", capture_output=True, text=True)
+    told = "- is the standard input, which can be read once" in ended.stderr
+    assert (ended.returncode, ended.stdout) == (2, "") and told, f"{words}: {ended}"
+
+
 @pytest.mark.parametrize("key", ("option", "primry", "secondry"))
 def test_keys_of_json(key: str) -> None:
     """A key that says nothing is refused: the problem without it would be another one."""
@@ -133,6 +143,16 @@ def test_keys_of_json(key: str) -> None:
     ended = subprocess.run([sys.executable, LAUNCHER, "--json", "-"], input=text, capture_output=True, text=True)
     told = f'"{key}" is none of "options", "primary", "secondary"'
     assert (ended.returncode, ended.stdout) == (3, "") and told in ended.stderr, f"{key}: {ended}"
+
+
+@pytest.mark.parametrize("text, told", (
+    ('{"options": [["a"]], "options": [["b"]]}', '"options" stands twice in an object'),
+    ('{"options": [["a", NaN], [NaN]]}', "NaN is no number there"),
+    ('{"options": [[-Infinity]]}', "-Infinity is no number there")))
+def test_what_is_no_json(text: str, told: str) -> None:
+    """What Python's reader would pass over or take in JSON's place: another problem would be solved."""
+    ended = subprocess.run([sys.executable, LAUNCHER, "--json", "-"], input=text, capture_output=True, text=True)
+    assert (ended.returncode, ended.stdout) == (3, "") and told in ended.stderr, f"{text}: {ended}"
 
 
 def test_mistakes_of_a_command() -> None:

@@ -6,7 +6,7 @@ from __future__ import annotations
 import json
 import sys
 from collections.abc import Hashable
-from typing import Any, Optional
+from typing import Any, NoReturn, Optional
 
 from . import Colored, Word, solve
 from .command_line.ends import run, Status, stop
@@ -35,10 +35,23 @@ def item_of(word: Any, place: int) -> Word:
     return Colored(item, parts[1]) if len(parts) == 2 else item
 
 
+def each_once(pairs: list[tuple[str, Any]]) -> dict[str, Any]:
+    """An object whose keys come once each: Python would drop all values of a key but the last."""
+    twice = next((key for place, (key, _) in enumerate(pairs) if key in dict(pairs[:place])), None)
+    if twice is not None:
+        raise ValueError(f"{json.dumps(twice)} stands twice in an object")
+    return dict(pairs)
+
+
+def no_number(word: str) -> NoReturn:
+    """Refuses NaN and Infinity, which Python takes for numbers and JSON hasn't: two NaN would be two items."""
+    raise ValueError(f"{word} is no number there")
+
+
 def solve_json(text: bytes, seconds: Optional[float] = None) -> Optional[list[int]]:
     """The answer to a problem that is given as JSON."""
     try:
-        given = json.loads(text)
+        given = json.loads(text, object_pairs_hook=each_once, parse_constant=no_number)
     except ValueError as why:
         raise ValueError(f"this is no JSON: {why}") from None
     strange = [key for key in given if key not in KEYS] if isinstance(given, dict) else []

@@ -291,7 +291,8 @@ def all_solutions(program: str, puzzle: Puzzle, problem: Problem, given: Namespa
     except (ProgramError, OutOfMemory) as why:
         stop(why, 3)
     except TimeIsUp:
-        print(f"There {'are' if count != 1 else 'is'} at least {plural(count, 'solution')}: the time was over before the end.")
+        found_so_far = f"There {'are' if count != 1 else 'is'} at least {plural(count, 'solution')}"
+        print(f"{found_so_far if count else 'No solution was found'}: the time was over before the end.")
         return 0 if count else NO_ANSWER
     if not count:
         tell_none(program, puzzle, problem, given, began)
