@@ -6,6 +6,7 @@ written and read again.
 """
 from __future__ import annotations
 
+import contextlib
 import doctest
 import itertools
 import json
@@ -160,6 +161,27 @@ def test_mistakes_of_a_command() -> None:
     code = "from zarfepoch.command_line.ends import run; run(lambda: [][0])"
     ended = subprocess.run([sys.executable, "-c", code], capture_output=True, text=True)
     assert ended.returncode == 3 and "IndexError" in ended.stderr, f"a mistake: {ended}"
+
+
+@pytest.mark.parametrize("number", (signal.SIGTERM, signal.SIGHUP, signal.SIGINT))
+def test_signals_end_the_program(tmp_path: pathlib.Path, number: signal.Signals) -> None:
+    """A command that is ended by a signal, as where its terminal goes, ends the program that it runs."""
+    path, begun = tmp_path / "slow", tmp_path / "begun"
+    path.write_text(f"#!/bin/sh\necho $$ > {begun}.new; mv {begun}.new {begun}\nexec sleep 100\n", encoding="ascii")
+    path.chmod(0o755)
+    words = [sys.executable, LAUNCHER, "queens", "4"]
+    with subprocess.Popen(words, env={**os.environ, "ZARFEPOCH": str(path)}, stderr=subprocess.PIPE) as run:
+        until = time.monotonic() + 30
+        while not begun.exists() and time.monotonic() < until:
+            time.sleep(0.05)
+        run.send_signal(number)
+        said = run.communicate(timeout=30)[1]
+    assert b"Traceback" not in said, f"signal {number}: {said!r}"
+    state, place = "", pathlib.Path("/proc", begun.read_text(encoding="ascii").strip(), "stat")
+    with contextlib.suppress(FileNotFoundError, ProcessLookupError):
+        state = place.read_text(encoding="ascii").rpartition(")")[2].split()[0]
+    # (a process that has ended may wait for whoever asks how)
+    assert state in ("", "Z"), f"the program goes on after signal {number}: {state}"
 
 
 @pytest.mark.parametrize("module", ("fractions", "csv"))

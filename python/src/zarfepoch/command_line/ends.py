@@ -52,6 +52,9 @@ def run(main: Callable[[], Status]) -> NoReturn:
         # (what starts a command leaves interrupts to the system until its modules are read)
         signal.signal(signal.SIGINT, signal.default_int_handler)
     signal.signal(signal.SIGTERM, lambda number, frame: sys.exit(128 + number))
+    if signal.getsignal(signal.SIGHUP) is signal.SIG_DFL:
+        # (below nohup it is ignored, and stays so)
+        signal.signal(signal.SIGHUP, lambda number, frame: sys.exit(128 + number))
     if sys.stdout is None:
         complain("the standard output can't be written: it is closed")
         sys.exit(3)
