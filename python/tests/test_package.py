@@ -106,7 +106,8 @@ def test_usage_as_typed(name: str) -> None:
 
 def test_complaint_as_typed() -> None:
     """A command without a usage line names itself as it was typed, too."""
-    for before, call in (("scripts/zarfepoch", [LAUNCHER]), ("zarfepoch", ["-c", INSTALLED.format("zarfepoch", "zarfepoch")])):
+    installed = ["-c", INSTALLED.format("zarfepoch", "zarfepoch")]
+    for before, call in (("scripts/zarfepoch", [LAUNCHER]), ("zarfepoch", installed)):
         for word, told in (("sudoku", before), ("why-none", f"{before} why-none")):
             ended = subprocess.run([sys.executable, *call, word, "no-such-file"], capture_output=True, text=True)
             is_told = ended.stderr.startswith(f"{told}: no-such-file can't be read: ")

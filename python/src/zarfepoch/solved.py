@@ -372,4 +372,5 @@ def solve_kind(given: Namespace, words: list[str]) -> int:
 
 
 def kind_missing() -> str:
-    return as_called(f"a KIND is missing, as in: {called()} sudoku FILE; zarfepoch-generate --help describes all of them")
+    return as_called(f"a KIND is missing, as in: {called()} sudoku FILE; "
+                     "zarfepoch-generate --help describes all of them")
