@@ -73,7 +73,8 @@ def in_files(trial: Solving, words: list[str]) -> list[str]:
     (["sudoku", UNIQUE], ONLY), (["sudoku", "." * 16], OTHER), (["langford", "3"], OTHER), (["queens", "1"], ONLY), (["queens", "6"], OTHER),
     (["killer", os.path.join(TOP, "examples", "killer.txt")], ONLY), (["sudoku", os.path.join(TOP, "examples", "sudoku.txt")], ONLY),
     (["crossword", "..\n#.\n", "ab bc\n"], ONLY), (["crossword", "..\n#.\n", "ab bc bd\n"], OTHER), (["nonogram", "1\n3\n1\n\n1\n3\n1\n"], ONLY),
-    (["nonogram", "1\n1\n\n1\n1\n"], OTHER)), ids=ascii)
+    (["nonogram", "1\n1\n\n1\n1\n"], OTHER), (["nonogram", "1,,\n3,,\n1,,\n,,\n1,,\n3,,\n1,,\n,,\n"], ONLY),
+    (["nonogram", "1;\r\n1;\r\n ; \r\n1;\r\n1;\r\n"], OTHER)), ids=ascii)
 def test_only_ones(trial: Solving, words: list[str], told: str) -> None:
     """Whether an answer is the only one."""
     words = in_files(trial, words)
@@ -279,6 +280,9 @@ def test_all_solutions(trial: Solving) -> None:
     status, lines, _ = trial.run("queens", "20", "--count", "--seconds", "1")
     told = r"There are at least [\d,]+ solutions: the time was over before the end."
     assert status == 0 and re.fullmatch(told, lines[0]), f"too many: {lines}"
+    status, lines, _ = trial.run("queens", "20", "--all", "--seconds", "0.000001")
+    told = "No solution was found: the time was over before the end."
+    assert (status, lines) == (4, [told]), f"none in time: {lines}"
     assert trial.run("queens", "4", "--all", "--out", trial.path("all.svg"))[0] == 2, "a picture of all"
     told = "\n".join(trial.run("--help")[1])
     assert all(re.search(rf"\b{kind}\b", told) for kind in ("queens", "kenken", "word-square", "timetable", "cubes")), "all kinds in the help"

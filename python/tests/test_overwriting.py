@@ -1,4 +1,5 @@
-"""Tries what commands write their files over: never over a file that they read, and never two things into one file."""
+"""Tries what commands write their files over: never over a file that they read, and never two things into one file; and
+what they say of a file that has no name."""
 from __future__ import annotations
 
 import os
@@ -78,3 +79,31 @@ def test_what_may_be_written(folder: pathlib.Path) -> None:
     assert ended.returncode == 0, f"three into a device: {ended.stderr}"
     ended = called(folder, "zarfepoch timetable table.csv --keep plan.csv --csv plan.csv")
     assert ended.returncode == 0, f"a plan in the place of one that is kept: {ended.stderr}"
+
+
+@pytest.mark.parametrize("words", (
+    "zarfepoch sudoku sudoku.txt --out", "zarfepoch sudoku sudoku.txt --problem", "zarfepoch timetable table.csv --csv",
+    "zarfepoch timetable table.csv --grid", "zarfepoch timetable table.csv --out-dir",
+    "zarfepoch timetable table.csv --rules", "zarfepoch timetable table.csv --keep",
+    "zarfepoch board 3x3 --pieces", "zarfepoch.generate sudoku sudoku.txt --out",
+    "zarfepoch.draw letters.dlx answer.txt --svg", "zarfepoch.why_none none.dlx --svg",
+    "zarfepoch.split letters.dlx --parts 2 --into"))
+def test_empty_names(folder: pathlib.Path, words: str) -> None:
+    """An option with an empty word, as a variable of the shell leaves it that isn't set, isn't passed over: another
+    plan would be made, or none be kept."""
+    before = bytes_of(folder)
+    call = [sys.executable, "-m", *words.split(), ""]
+    ended = subprocess.run(call, capture_output=True, text=True, cwd=folder, timeout=300)
+    told = f"{words.split()[-1]} names no f" in ended.stderr
+    assert (ended.returncode, ended.stdout) == (2, "") and told, f"{words}: {ended}"
+    assert bytes_of(folder) == before, f"{words}: a file was changed"
+
+
+@pytest.mark.parametrize("words", (
+    "zarfepoch sudoku", "zarfepoch timetable", "zarfepoch --json", "zarfepoch.explain", "zarfepoch.why_none"))
+def test_files_without_a_name(folder: pathlib.Path, words: str) -> None:
+    """That a file has no name is said in words, and not by a gap in the message."""
+    call = [sys.executable, "-m", *words.split(), ""]
+    ended = subprocess.run(call, capture_output=True, text=True, cwd=folder, timeout=300)
+    told = "a file without a name can't be read" in ended.stdout + ended.stderr
+    assert ended.returncode == 3 and told, f"{words}: {ended}"

@@ -6,6 +6,7 @@ written and read again.
 """
 from __future__ import annotations
 
+import contextlib
 import doctest
 import itertools
 import json
@@ -34,6 +35,7 @@ from zarfepoch import Clique, Colored, Problem, Reason
 from zarfepoch.commands import COMMANDS
 from zarfepoch.files.cover_files import read_problem
 from zarfepoch.problems import RunningQuestion
+from zarfepoch.programs import UnprovedNote
 from zarfepoch.reasons.even_room import any_reason, even_room, greatest
 from zarfepoch.search.all_covers import Covers, Question
 from zarfepoch.search.parts import Prefix, Tree
@@ -86,6 +88,32 @@ def test_reader_that_goes_away(name: str) -> None:
     assert (ended.returncode, ended.stderr) == (3, b""), f"{name}: {ended}"
 
 
+# what pip and scripts/install.sh put on the path: a command by its name
+INSTALLED = "import sys; sys.argv[0] = '/some/path/{}'; from zarfepoch.commands import *; command_of(COMMANDS['{}'])()"
+
+
+@pytest.mark.parametrize("name", COMMANDS)
+def test_usage_as_typed(name: str) -> None:
+    """The usage of a command begins with the words that were typed, and so does what it says on standard error."""
+    tool = name.split("-", 1)[1:]
+    typed = {"scripts/zarfepoch": [LAUNCHER], "zarfepoch": ["-c", INSTALLED.format("zarfepoch", "zarfepoch")]}
+    calls = [(" ".join([before, *tool]), [*call, *tool]) for before, call in typed.items()]
+    for words, call in [*calls, (name, ["-c", INSTALLED.format(name, name)])]:
+        ended = subprocess.run([sys.executable, *call, "--no-such-option"], capture_output=True, text=True)
+        told = ended.stderr.startswith(f"usage: {words} [-h] ") and f"\n{words}: error: " in ended.stderr
+        assert (ended.returncode, ended.stdout) == (2, "") and told, f"{words}: {ended}"
+
+
+def test_complaint_as_typed() -> None:
+    """A command without a usage line names itself as it was typed, too."""
+    installed = ["-c", INSTALLED.format("zarfepoch", "zarfepoch")]
+    for before, call in (("scripts/zarfepoch", [LAUNCHER]), ("zarfepoch", installed)):
+        for word, told in (("sudoku", before), ("why-none", f"{before} why-none")):
+            ended = subprocess.run([sys.executable, *call, word, "no-such-file"], capture_output=True, text=True)
+            is_told = ended.stderr.startswith(f"{told}: no-such-file can't be read: ")
+            assert ended.returncode == 3 and is_told, f"{word}: {ended}"
+
+
 @pytest.mark.parametrize("text, told", (
     (b"a b\na c\n", "no item is named c"), (b"", "no line names items"), (b"| a\n", "no line names items"),
     (b"a\n\xff\n", "no item is named \\xff"), (None, "can't be read: No such file or directory")))
@@ -100,6 +128,16 @@ def test_problems_without_a_certificate(tmp_path: pathlib.Path, text: Optional[b
     assert (ended.returncode, ended.stdout) == (3, "") and is_told, f"{text!r}: {ended}"
 
 
+@pytest.mark.parametrize("words", (
+    "another - -", "another FILE - -", "check-reason - -", "draw - -", "explain - -"))
+def test_standard_input_twice(words: str) -> None:
+    """What a command would find the second time is no empty file, of which it could say anything."""
+    call = [os.path.join(EXAMPLES, "letters.dlx") if word == "FILE" else word for word in words.split()]
+    ended = subprocess.run([sys.executable, LAUNCHER, *call], input="cover 0\n", capture_output=True, text=True)
+    told = "- is the standard input, which can be read once" in ended.stderr
+    assert (ended.returncode, ended.stdout) == (2, "") and told, f"{words}: {ended}"
+
+
 @pytest.mark.parametrize("key", ("option", "primry", "secondry"))
 def test_keys_of_json(key: str) -> None:
     """A key that says nothing is refused: the problem without it would be another one."""
@@ -109,11 +147,42 @@ def test_keys_of_json(key: str) -> None:
     assert (ended.returncode, ended.stdout) == (3, "") and told in ended.stderr, f"{key}: {ended}"
 
 
+@pytest.mark.parametrize("text, told", (
+    ('{"options": [["a"]], "options": [["b"]]}', '"options" stands twice in an object'),
+    ('{"options": [["a", NaN], [NaN]]}', "NaN is no number there"),
+    ('{"options": [[-Infinity]]}', "-Infinity is no number there")))
+def test_what_is_no_json(text: str, told: str) -> None:
+    """What Python's reader would pass over or take in JSON's place: another problem would be solved."""
+    ended = subprocess.run([sys.executable, LAUNCHER, "--json", "-"], input=text, capture_output=True, text=True)
+    assert (ended.returncode, ended.stdout) == (3, "") and told in ended.stderr, f"{text}: {ended}"
+
+
 def test_mistakes_of_a_command() -> None:
     """A mistake in a command itself, which nobody foresaw, isn't told as `none` is, by status 1."""
     code = "from zarfepoch.command_line.ends import run; run(lambda: [][0])"
     ended = subprocess.run([sys.executable, "-c", code], capture_output=True, text=True)
     assert ended.returncode == 3 and "IndexError" in ended.stderr, f"a mistake: {ended}"
+
+
+@pytest.mark.parametrize("number", (signal.SIGTERM, signal.SIGHUP, signal.SIGINT))
+def test_signals_end_the_program(tmp_path: pathlib.Path, number: signal.Signals) -> None:
+    """A command that is ended by a signal, as where its terminal goes, ends the program that it runs."""
+    path, begun = tmp_path / "slow", tmp_path / "begun"
+    path.write_text(f"#!/bin/sh\necho $$ > {begun}.new; mv {begun}.new {begun}\nexec sleep 100\n", encoding="ascii")
+    path.chmod(0o755)
+    words = [sys.executable, LAUNCHER, "queens", "4"]
+    with subprocess.Popen(words, env={**os.environ, "ZARFEPOCH": str(path)}, stderr=subprocess.PIPE) as run:
+        until = time.monotonic() + 30
+        while not begun.exists() and time.monotonic() < until:
+            time.sleep(0.05)
+        run.send_signal(number)
+        said = run.communicate(timeout=30)[1]
+    assert b"Traceback" not in said, f"signal {number}: {said!r}"
+    state, place = "", pathlib.Path("/proc", begun.read_text(encoding="ascii").strip(), "stat")
+    with contextlib.suppress(FileNotFoundError, ProcessLookupError):
+        state = place.read_text(encoding="ascii").rpartition(")")[2].split()[0]
+    # (a process that has ended may wait for whoever asks how)
+    assert state in ("", "Z"), f"the program goes on after signal {number}: {state}"
 
 
 @pytest.mark.parametrize("module", ("fractions", "csv"))
@@ -311,8 +380,8 @@ def test_all_by_both() -> None:
         assert len(set(listed)) == len(listed) and set(listed) == known, f"all covers of {list(problem)} by both: {listed}"
         questions += len(asked)
         if seed < 50:
-            program = os.environ["ZARFEPOCH"]
-            listed = list(Slow(tree, lambda prefix: RunningQuestion(program, tree, prefix), 0.001, draw).each())
+            program, note = os.environ["ZARFEPOCH"], UnprovedNote()
+            listed = list(Slow(tree, lambda prefix: RunningQuestion(program, tree, prefix, note), 0.001, draw).each())
             assert len(set(listed)) == len(listed) and set(listed) == known, f"all covers of {list(problem)} by the program: {listed}"
     assert questions > 1000 and min(counts[True], counts[False]) > 20, f"enough of each: {questions} {counts}"
 

@@ -38,9 +38,9 @@ A `Problem` keeps items and options together, reads and writes files, and is ite
 
 What is raised is an `Error`: a `ProblemError`, which is a ValueError with `option`, `item` and `line`; a `WrongNumber`,
 a ValueError, for seconds or threads that can't be; `TimeIsUp`, a TimeoutError, where there is no answer after so many
-seconds; `OutOfMemory`, a MemoryError; or a `ProgramError`, a RuntimeError, where there is no program, or it fails. The
-program is what ZARFEPOCH names in the environment, else solve_cli on the path, else, for a package in a clone, what was
-built there.
+seconds; `OutOfMemory`, a MemoryError; or a `ProgramError`, a RuntimeError, where there is no program, or it fails. An
+`UnprovedWarning` comes beside a `none` of a program that was built without proofs. The program is what ZARFEPOCH names
+in the environment, else solve_cli on the path, else, for a package in a clone, what was built there.
 """
 from __future__ import annotations
 
@@ -49,14 +49,15 @@ from typing import Optional, TypeVar
 
 from .errors import (
     ColoredPrimary, Error, NoAnswer, NoProgram, OutOfMemory, ProblemError, ProgramError, RepeatedItem, TimeIsUp, TooLarge, UncleanAudit, UnknownItem,
-    WrongNumber)
+    UnprovedWarning, WrongNumber)
 from .problems import Clique, Colored, Problem, Reason, want_list, Word
 from .programs import find_program
 
 __version__ = "1.0.0"
 __all__ = [
     "Clique", "Colored", "ColoredPrimary", "Error", "NoAnswer", "NoProgram", "OutOfMemory", "Problem", "ProblemError", "ProgramError", "Reason",
-    "RepeatedItem", "TimeIsUp", "TooLarge", "UncleanAudit", "UnknownItem", "Word", "WrongNumber", "__version__", "chosen", "find_program", "reasons", "solve"]
+    "RepeatedItem", "TimeIsUp", "TooLarge", "UncleanAudit", "UnknownItem", "UnprovedWarning", "Word",
+    "WrongNumber", "__version__", "chosen", "find_program", "reasons", "solve"]
 
 Option = TypeVar("Option", bound=Iterable[Word])
 

@@ -6,10 +6,11 @@ from __future__ import annotations
 import json
 import sys
 from collections.abc import Hashable
-from typing import Any, Optional
+from typing import Any, NoReturn, Optional
 
 from . import Colored, Word, solve
 from .command_line.ends import run, Status, stop
+from .command_line.words import called
 from .commands import COMMANDS, command_of
 from .files.whole_files import Unreadable, read_bytes
 from .solved import command_line, kind_missing, solve_kind
@@ -34,10 +35,23 @@ def item_of(word: Any, place: int) -> Word:
     return Colored(item, parts[1]) if len(parts) == 2 else item
 
 
+def each_once(pairs: list[tuple[str, Any]]) -> dict[str, Any]:
+    """An object whose keys come once each: Python would drop all values of a key but the last."""
+    twice = next((key for place, (key, _) in enumerate(pairs) if key in dict(pairs[:place])), None)
+    if twice is not None:
+        raise ValueError(f"{json.dumps(twice)} stands twice in an object")
+    return dict(pairs)
+
+
+def no_number(word: str) -> NoReturn:
+    """Refuses NaN and Infinity, which Python takes for numbers and JSON hasn't: two NaN would be two items."""
+    raise ValueError(f"{word} is no number there")
+
+
 def solve_json(text: bytes, seconds: Optional[float] = None) -> Optional[list[int]]:
     """The answer to a problem that is given as JSON."""
     try:
-        given = json.loads(text)
+        given = json.loads(text, object_pairs_hook=each_once, parse_constant=no_number)
     except ValueError as why:
         raise ValueError(f"this is no JSON: {why}") from None
     strange = [key for key in given if key not in KEYS] if isinstance(given, dict) else []
@@ -58,14 +72,15 @@ def solve_json(text: bytes, seconds: Optional[float] = None) -> Optional[list[in
 def main() -> Status:
     tool = "-".join(["zarfepoch", *sys.argv[1:2]])
     if sys.argv[1:] and tool in COMMANDS:
-        sys.argv[:2] = [tool]
+        # (both words stand for the tool, in its usage too)
+        sys.argv[:2] = [f"{called()} {sys.argv[1]}"]
         command_of(COMMANDS[tool])()
     given = command_line().parse_args()
-    if given.kind and given.json:
+    if given.kind and given.json is not None:
         stop("--json FILE stands for a KIND, and both are given")
     if given.kind:
         return solve_kind(given, sys.argv[1:])
-    if not given.json:
+    if given.json is None:
         stop(kind_missing())
     try:
         answer = solve_json(read_bytes(given.json), given.seconds)

@@ -49,6 +49,8 @@ def main() -> int:
     parser.add_argument("file", metavar="FILE", help="the problem's file")
     parser.add_argument("answers", metavar="ANSWER", nargs="+", help="an answer's file, or - for the standard input")
     given = parser.parse_args()
+    if [given.file, *given.answers].count("-") > 1:
+        parser.error("- is the standard input, which can be read once")
     try:
         problem = read_problem(read_bytes(given.file))
         if problem.faults:

@@ -157,7 +157,8 @@ class Checker:      # once `check` has returned, there is no exact cover; it rai
 
 
 def main() -> int:
-    words = argparse.ArgumentParser(description=__doc__, formatter_class=argparse.RawDescriptionHelpFormatter)
+    whole = sys.argv[0] if " " in sys.argv[0] else None     # (the words of a command that calls this one, and no path)
+    words = argparse.ArgumentParser(whole, description=__doc__, formatter_class=argparse.RawDescriptionHelpFormatter)
     for name, what in (("file", "the problem's file"), ("certificate", "the certificate's file, or - for the standard input")):
         words.add_argument(name, metavar=name.upper(), help=what)
     given, said, status = words.parse_args(), "right", 0

@@ -1,4 +1,4 @@
-"""What the package raises. Each is an `Error`, and one of Python's own kinds beside it."""
+"""What the package raises, each an `Error` and one of Python's own kinds beside it, and what it warns of."""
 from __future__ import annotations
 
 from typing import Optional
@@ -66,3 +66,7 @@ class TimeIsUp(Error, TimeoutError):
 
 class OutOfMemory(Error, MemoryError):
     """The program ran out of memory."""
+
+
+class UnprovedWarning(UserWarning):
+    """The program that says that there is no cover was built without proofs."""

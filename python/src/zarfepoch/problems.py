@@ -15,7 +15,7 @@ from .files import cover_files
 from .files.cover_files import MAX_COLOURS, MAX_ITEMS, MAX_NAME, MAX_OCCURRENCES, MAX_OPTIONS
 from .files.fault_words import fault_words
 from .files.whole_files import put_bytes
-from .programs import dying_with_parent, find_program, own_words
+from .programs import dying_with_parent, find_program, own_words, UnprovedNote
 from .reasons import cover_reason
 from .reasons.even_room import even_room
 from .search.all_covers import Covers, Run
@@ -179,7 +179,8 @@ class Problem:
         It takes whatever is first of the ways of `solve_cli answer`, on all processors. With `nodes` (1 to 16) and
         `workers` (1 to 8) several threads search, as `solve_cli solve` does; with `audit` their run is audited, so that
         None is right whatever the network did. Raises `TimeIsUp` after so many seconds, `OutOfMemory`, or a
-        `ProgramError`; `WrongNumber` for a number that can't be.
+        `ProgramError`; `WrongNumber` for a number that can't be. An `UnprovedWarning` says that None is the answer of a
+        program that was built without proofs.
         """
         threads = number_in(nodes, "nodes", MOST_NODES) + number_in(workers, "workers", MOST_WORKERS)
         words = ["solve", "-", *threads, *["--audit"] * audit] if threads or audit else ["answer", "-"]
@@ -187,7 +188,10 @@ class Problem:
         status, answer, why = self._ask(words, lines, seconds)
         found = answer.pop() if audit and answer and answer[-1].startswith("audit ") else ""
         chosen = lines_chosen(status, answer, found.partition(": ")[2] if status == 6 else why)
-        return None if chosen is None else chosen_of(chosen, lines)
+        if chosen is None:
+            UnprovedNote().tell(why)
+            return None
+        return chosen_of(chosen, lines)
 
     def chosen(self, seconds: Optional[float] = None, *, nodes: Optional[int] = None, workers: Optional[int] = None,
                audit: bool = False) -> Optional[list[tuple[Word, ...]]]:
@@ -198,11 +202,12 @@ class Problem:
     def covers(self, seconds: Optional[float] = None) -> Iterator[list[int]]:
         """Each exact cover once, as the places of its options. A plain search in Python goes through all of them; where
         it meets none for a while, the program is asked meanwhile whether there are any in the rest (`all_covers`).
-        `TimeIsUp` where neither a cover nor the end comes in so many seconds."""
-        limit, program = checked_seconds(seconds), find_program()
+        `TimeIsUp` where neither a cover nor the end comes in so many seconds. An `UnprovedWarning` says, once, that a
+        program without proofs has answered that there are none in some part."""
+        limit, program, note = checked_seconds(seconds), find_program(), UnprovedNote()
         tree = Tree(cover_files.read_problem(self._numbered_text(self._numbered_lines())))
         kept = [place for place, option in enumerate(self) if self._is_kept(option)]
-        found = Covers(tree, lambda prefix: RunningQuestion(program, tree, prefix)).each(limit)
+        found = Covers(tree, lambda prefix: RunningQuestion(program, tree, prefix, note)).each(limit)
         with contextlib.closing(found):
             yield from (sorted(kept[place] for place in cover) for cover in found)
 
@@ -218,6 +223,7 @@ class Problem:
             return self._named_reason(found) if found else None
         if status != 1 or answer[:1] != ["none"]:
             raise failure(status, why)
+        UnprovedNote().tell(why)
         try:
             found = cover_reason.Reason("\n".join(answer).encode())
         except ValueError as what:
@@ -337,10 +343,11 @@ class Problem:
 
 
 class RunningQuestion:
-    """What the program answers about a prefix of a problem's search tree, while Python goes on."""
+    """What the program answers about a prefix of a problem's search tree, while Python goes on; all questions of a call
+    have one note."""
 
-    def __init__(self, program: str, tree: Tree, prefix: Prefix) -> None:
-        self.prefix = prefix
+    def __init__(self, program: str, tree: Tree, prefix: Prefix, note: UnprovedNote) -> None:
+        self.prefix, self.note = prefix, note
         self.places = {tree.words(place).decode(): place for place in reversed(places_in(prefix.live))}
         try:
             self.run = Run([program, "answer", "-"], part_text(tree, prefix, 1, 1))
@@ -351,8 +358,12 @@ class RunningQuestion:
         return self.run.is_over()
 
     def answer(self) -> Optional[frozenset[int]]:
-        lines = lines_chosen(self.run.process.returncode, self.run.output.decode().splitlines(), self.run.errors.decode(errors="replace").strip())
-        return None if lines is None else frozenset([*self.prefix.options, *(self.places[line] for line in lines)])
+        why = self.run.errors.decode(errors="replace").strip()
+        lines = lines_chosen(self.run.process.returncode, self.run.output.decode().splitlines(), why)
+        if lines is None:
+            self.note.tell(why)
+            return None
+        return frozenset([*self.prefix.options, *(self.places[line] for line in lines)])
 
     def end(self) -> None:
         self.run.end()

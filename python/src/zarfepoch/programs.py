@@ -6,12 +6,17 @@ from __future__ import annotations
 import os
 import shutil
 import subprocess
+import sys
+import warnings
 from typing import NamedTuple, Optional
 
-from .errors import NoProgram, ProgramError
+from .errors import NoProgram, ProgramError, UnprovedWarning
 
 CLONE = os.path.join(os.path.dirname(os.path.abspath(__file__)), "..", "..", "..")
 BUILT_HERE, UNPROVED_HERE = os.path.join(CLONE, "crates", "solve_cli", "out", "solve_cli"), os.path.join(CLONE, "unproved", "solve_cli")
+
+# how the line begins that a program without proofs writes on standard error beside each `none`
+UNPROVED = "unproved: "
 
 
 def is_program(path: str) -> bool:
@@ -37,6 +42,30 @@ def own_words(why: str) -> str:
     """What the program says of a run without an answer, without the commands that it would advise and the package
     hasn't."""
     return why.removeprefix("ended: ").replace(", or answer", "").replace(", or --unlimited", "")
+
+
+def level_outside() -> int:
+    """How many calls the line outside the package that called it is away from who asks: that line is warned of."""
+    package, level, frame = f"{__package__}.", 0, sys._getframe(1)
+    while frame.f_back and f"{frame.f_globals.get('__name__')}.".startswith(package):
+        level, frame = level + 1, frame.f_back
+    return level + 1
+
+
+class UnprovedNote:
+    """Warns, once however many answers there are, that a program without proofs says that there is no cover."""
+
+    def __init__(self) -> None:
+        self.is_told = False
+
+    def tell(self, why: str) -> str:
+        """Warns if standard error, beside a `none`, has the note; what else it has."""
+        lines = why.splitlines()
+        notes = [line for line in lines if line.startswith(UNPROVED)]
+        if notes and not self.is_told:
+            self.is_told = True
+            warnings.warn(notes[0], UnprovedWarning, stacklevel=level_outside())
+        return "\n".join(line for line in lines if line not in notes)
 
 
 def missing_program(named: Optional[str]) -> str:
@@ -93,5 +122,7 @@ def run_program(program: str, words: list[str], text: bytes) -> ProgramAnswer:
 
 
 def answer_of(program: str, text: bytes, seconds: Optional[float] = None) -> ProgramAnswer:
-    """The answer to a problem, within so many seconds if they are told."""
-    return run_program(program, ["answer", "-", *(["--seconds", str(max(1, round(seconds)))] if seconds else [])], text)
+    """The answer to a problem, within so many seconds if they are told. That a `none` isn't proved is a warning."""
+    limit = ["--seconds", str(max(1, round(seconds)))] if seconds else []
+    found = run_program(program, ["answer", "-", *limit], text)
+    return found._replace(why=UnprovedNote().tell(found.why)) if found.is_none else found

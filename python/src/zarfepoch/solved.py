@@ -47,7 +47,7 @@ from collections.abc import Callable, Iterator
 from typing import Optional
 
 from .command_line.ends import complain, stop
-from .command_line.words import as_called, parser_of
+from .command_line.words import as_called, called, parser_of
 from .command_line.written import keep_what_is_read
 from .commands import COMMANDS
 from .errors import NoProgram, OutOfMemory, ProgramError, TimeIsUp
@@ -60,7 +60,7 @@ from .pictures.kinds import in_words, picture_of
 from .pictures.plan_files import add_tables, with_plans, write_plans
 from .pictures.svg_paper import Paper
 from .problems import RunningQuestion
-from .programs import answer_of, find_program, own_words, ProgramAnswer
+from .programs import answer_of, find_program, own_words, ProgramAnswer, UnprovedNote
 from .puzzles.kinds import kinds_listed, kinds_of, problems_of
 from .puzzles.mistyped import SECONDS as CHANGE_SECONDS, change_lines
 from .reasons.even_room import any_reason
@@ -278,8 +278,8 @@ def all_solutions(program: str, puzzle: Puzzle, problem: Problem, given: Namespa
     """Draws or counts all solutions of a puzzle; the exit status."""
     if given.out:
         stop("--out draws one solution, so it doesn't go with --all and --count")
-    tree, count, began = Tree(problem), 0, time.monotonic()
-    found = Covers(tree, lambda prefix: RunningQuestion(program, tree, prefix)).each(given.seconds)
+    tree, note, count, began = Tree(problem), UnprovedNote(), 0, time.monotonic()
+    found = Covers(tree, lambda prefix: RunningQuestion(program, tree, prefix, note)).each(given.seconds)
     try:
         # (each solution that is drawn says that the search goes on)
         with contextlib.closing(found), contextlib.nullcontext() if given.all else told_waiting(lambda: f": {plural(count, 'solution')} so far"):
@@ -291,7 +291,8 @@ def all_solutions(program: str, puzzle: Puzzle, problem: Problem, given: Namespa
     except (ProgramError, OutOfMemory) as why:
         stop(why, 3)
     except TimeIsUp:
-        print(f"There {'are' if count != 1 else 'is'} at least {plural(count, 'solution')}: the time was over before the end.")
+        found_so_far = f"There {'are' if count != 1 else 'is'} at least {plural(count, 'solution')}"
+        print(f"{found_so_far if count else 'No solution was found'}: the time was over before the end.")
         return 0 if count else NO_ANSWER
     if not count:
         tell_none(program, puzzle, problem, given, began)
@@ -371,4 +372,5 @@ def solve_kind(given: Namespace, words: list[str]) -> int:
 
 
 def kind_missing() -> str:
-    return as_called("a KIND is missing, as in: zarfepoch sudoku FILE; zarfepoch-generate --help describes all of them")
+    return as_called(f"a KIND is missing, as in: {called()} sudoku FILE; "
+                     "zarfepoch-generate --help describes all of them")

@@ -72,6 +72,8 @@ def main() -> None:
     words.add_argument("--parts", metavar="N", required=True, type=number_of_parts, help=f"at least so many parts (1 to {MOST_PARTS})")
     words.add_argument("--into", metavar="FOLDER", required=True, help="the folder that is made")
     given = words.parse_args()
+    if not given.into:
+        words.error("--into names no folder: the word behind it is empty")
     text, tree = read_tree(given.file)
     found = split(tree, given.parts)
     parts = ((part_name(number), part) for number, part in enumerate(texts_of(tree, found), 1))

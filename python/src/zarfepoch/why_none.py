@@ -37,7 +37,7 @@ from .files.full_names import told_lines
 from .files.whole_files import Unreadable, read_bytes, write_out
 from .pictures.kinds import in_words
 from .pictures.reasons import reason_svg
-from .programs import is_program, known_program, missing_program
+from .programs import is_program, known_program, missing_program, UnprovedNote
 from .reasons.cover_reason import Named, Reason, clash
 from .reasons.even_room import any_reason
 
@@ -63,6 +63,7 @@ class Questions:
 
     def __init__(self, problem: Problem, program: str, fuel: int) -> None:
         self.problem, self.program, self.fuel, self.asked = problem, program, str(fuel), 0
+        self.note = UnprovedNote()
 
     def answer(self, kept: list[bytes]) -> tuple[int, bytes]:
         """The exit status of the search with these primary items, and the first word of its answer."""
@@ -72,7 +73,10 @@ class Questions:
             ran = subprocess.run([self.program, "alone", "-", "--fuel", self.fuel], input=text, capture_output=True)
         except OSError as why:
             stop(f"the program can't be run: {why}")
-        return ran.returncode, ran.stdout.partition(b" ")[0].strip()
+        found = ran.returncode, ran.stdout.partition(b" ")[0].strip()
+        if found == NONE:
+            self.note.tell(ran.stderr.decode(errors="replace"))
+        return found
 
     def is_none(self, kept: list[bytes]) -> bool:
         return bool(kept) and self.answer(kept) == NONE

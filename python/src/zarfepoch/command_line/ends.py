@@ -6,9 +6,10 @@ import os
 import signal
 import sys
 import traceback
-from typing import Callable, NoReturn, Union
+import warnings
+from typing import Callable, NoReturn, Optional, TextIO, Union
 
-from .words import as_called
+from .words import as_called, called
 
 Status = Union[int, str, None]
 
@@ -16,13 +17,19 @@ Status = Union[int, str, None]
 def complain(why: object) -> None:
     """Writes a line on standard error, if that is open."""
     if sys.stderr is not None:
-        print(as_called(f"{os.path.basename(sys.argv[0]).removesuffix('.py')}: {why}"), file=sys.stderr)
+        print(as_called(f"{called()}: {why}"), file=sys.stderr)
 
 
 def stop(why: object, status: int = 2) -> NoReturn:
     """Ends the script with this status and tells why."""
     complain(why)
     sys.exit(status)
+
+
+def show_warning(message: Union[Warning, str], category: type[Warning], filename: str, lineno: int,
+                 file: Optional[TextIO] = None, line: Optional[str] = None) -> None:
+    """Writes a warning as a line of the command's own, without the place in the code that is of no use to its users."""
+    complain(message)
 
 
 def status_of(main: Callable[[], Status]) -> Status:
@@ -38,17 +45,24 @@ def run(main: Callable[[], Status]) -> NoReturn:
 
     A reader that goes away, as `head` does, ends it quietly, with status 3. Where the standard output is closed or
     takes no more, or memory runs out, standard error has a line, too. A mistake of the script's own is never status 1,
-    which would be an answer. A signal that ends it also ends the program that it runs; an interrupt is told nowhere.
+    which would be an answer. A signal that ends it also ends the program that it runs; an interrupt is told nowhere. A
+    warning of the package is a line on standard error.
     """
     if signal.getsignal(signal.SIGINT) is signal.SIG_DFL:
         # (what starts a command leaves interrupts to the system until its modules are read)
         signal.signal(signal.SIGINT, signal.default_int_handler)
     signal.signal(signal.SIGTERM, lambda number, frame: sys.exit(128 + number))
+    if signal.getsignal(signal.SIGHUP) is signal.SIG_DFL:
+        # (below nohup it is ignored, and stays so)
+        signal.signal(signal.SIGHUP, lambda number, frame: sys.exit(128 + number))
     if sys.stdout is None:
         complain("the standard output can't be written: it is closed")
         sys.exit(3)
     if isinstance(sys.stdout, io.TextIOWrapper):
         sys.stdout.reconfigure(errors="backslashreplace")
+    # (each text once, whatever the environment has Python do with warnings)
+    warnings.simplefilter("once", UserWarning)
+    warnings.showwarning = show_warning
     try:
         status = status_of(main)
         sys.stdout.flush()

@@ -3,6 +3,7 @@ from __future__ import annotations
 
 import argparse
 import difflib
+import os
 import re
 import sys
 from typing import NoReturn, Optional
@@ -28,6 +29,15 @@ def as_called(text: str) -> str:
     return text
 
 
+def called() -> str:
+    """The words that this command was called by, for its usage and in front of what it says on standard error: those of
+    the launcher in a clone, else its name on the path, or that of a module. Where the command zarfepoch was asked for a
+    tool, the tool is the last of them."""
+    launcher: Optional[str] = getattr(sys.modules["__main__"], "LAUNCHER", None)
+    own = launcher or os.path.basename(sys.argv[0]).removesuffix(".py")
+    return sys.argv[0] if sys.argv[0].startswith(f"{own} ") else own
+
+
 def meant_by(word: str, choices: list[str]) -> str:
     """What may be meant by a word that is none of these, for the end of a message."""
     if word in OF_PROGRAM:
@@ -47,7 +57,8 @@ class CommandLine(argparse.ArgumentParser):
 
 def parser_of(text: Optional[str]) -> argparse.ArgumentParser:
     """A command line whose help is this text as it stands."""
-    return CommandLine(description=as_called(text or ""), formatter_class=argparse.RawDescriptionHelpFormatter)
+    return CommandLine(prog=called(), description=as_called(text or ""),
+                       formatter_class=argparse.RawDescriptionHelpFormatter)
 
 
 def number_from_one(text: str) -> int:

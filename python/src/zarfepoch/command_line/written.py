@@ -10,6 +10,8 @@ from .ends import stop
 # what command lines call the files that they write, by their options, and those that they read
 WRITTEN = ("out", "svg", "csv", "grid", "problem")
 READ = ("file", "answer", "given", "cells", "pieces", "rules", "keep")
+# and by which options they name a file or a folder
+NAMING = (*WRITTEN, "pieces", "rules", "keep", "out_dir")
 
 
 def real(path: str) -> str:
@@ -26,7 +28,11 @@ def read_by(given: Namespace, without: Iterable[str] = ()) -> set[str]:
 
 def keep_what_is_read(given: Namespace) -> None:
     """Ends a command that would write over a file that it reads, or two things into one file. (A plan that is kept may
-    make place for the next one.)"""
+    make place for the next one.) A name without a letter, as of a variable of the shell that isn't set, ends it too: as
+    though the option weren't there, another plan would be made, or none be written."""
+    for name in NAMING:
+        if getattr(given, name, None) == "":
+            stop(f"--{name.replace('_', '-')} names no file: the word behind it is empty")
     taken: dict[str, str] = {}
     for name in WRITTEN:
         path = getattr(given, name, None)

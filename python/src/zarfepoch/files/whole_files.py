@@ -46,6 +46,8 @@ def read_bytes(path: str) -> bytes:
     large, or refused by the system."""
     if path == "-":
         return standard_input()
+    if not path:
+        raise Unreadable("a file without a name can't be read")
     if os.path.isdir(path):
         raise Unreadable(f"{path} can't be read: it is a folder")
     try:

@@ -25,7 +25,7 @@ class Argument:
 def whole_number(text: str) -> int:
     """A number from 1 with at most four digits."""
     if not re.fullmatch(r"[1-9][0-9]{0,3}", text):
-        raise argparse.ArgumentTypeError(f"'{text}' is no number from 1")
+        raise argparse.ArgumentTypeError(f"'{text}' is no number from 1 to 9999")
     return int(text)
 
 

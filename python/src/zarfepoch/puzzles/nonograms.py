@@ -137,7 +137,7 @@ def numbers_of(path: str, number: int, line: str, width: int) -> list[int]:
 
 def read_blocks(path: str) -> tuple[list[Blocks], list[Blocks]]:
     """The lengths of the blocks of each row and of each column."""
-    parts = blocks_of(path)
+    parts = blocks_of(path, ",;")
     if len(parts) != 2:
         refuse(path, None, "lines of numbers for the rows are expected, one empty line, and lines of numbers for the columns, in which a line "
                f"without black cells is 0; here {'is' if len(parts) == 1 else 'are'} {plural(len(parts), 'block')} of lines")

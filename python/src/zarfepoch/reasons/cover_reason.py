@@ -19,6 +19,7 @@ from typing import Optional
 from ..errors import TimeIsUp
 from ..files.cover_files import Option, Problem, shown
 from ..files.fault_words import first_few, plural, quoted
+from ..programs import UnprovedNote
 
 # numbers by the names of their items; what items are called
 Amounts = dict[bytes, int]
@@ -289,4 +290,7 @@ def found_reason(program: str, text: bytes, seconds: Optional[float] = None) -> 
         ran = subprocess.run([program, "why", "-"], input=text, capture_output=True, timeout=None if seconds is None else max(0.0, seconds))
     except subprocess.TimeoutExpired:
         raise TimeIsUp("the time was over before a reason was found") from None
-    return Reason(ran.stdout) if ran.returncode == 1 and ran.stdout.startswith(b"none\n") else None
+    if ran.returncode != 1 or not ran.stdout.startswith(b"none\n"):
+        return None
+    UnprovedNote().tell(ran.stderr.decode(errors="replace"))
+    return Reason(ran.stdout)

@@ -50,7 +50,7 @@ class Puzzle:
 
 
 def called(path: str) -> str:
-    return "the standard input" if path == "-" else path
+    return "the standard input" if path == "-" else path or "a file without a name"
 
 
 def refuse(path: str, line: int | None, why: str) -> NoReturn:
@@ -115,14 +115,14 @@ def rows_of(path: str) -> list[tuple[int, str]]:
     return rows[some[0]:some[-1] + 1] if some else []
 
 
-def blocks_of(path: str) -> list[list[tuple[int, str]]]:
+def blocks_of(path: str, between: str = "") -> list[list[tuple[int, str]]]:
     """The runs of lines that aren't blank, each line with its number; a line that begins with `|` and a blank is a
-    comment."""
+    comment. Lines that have nothing but these characters between cells are blank, too: so spreadsheets write them."""
     blocks: list[list[tuple[int, str]]] = [[]]
     for number, line in rows_of(path):
         if re.match(r"\s*\|(\s|$)", line):
             continue
-        if line:
+        if line.strip(between + " \t"):
             blocks[-1].append((number, line))
         elif blocks[-1]:
             blocks.append([])
