@@ -296,6 +296,15 @@ def test_wrong_rows(trial: Planning, what: str, status: int, row: str) -> None:
     assert ended.returncode == status and "line 3" in ended.stderr and "Traceback" not in ended.stderr, f"{what}: {ended.returncode} {ended.stderr}"
 
 
+@pytest.mark.parametrize("first", ("sep=;", "SEP=;", '"sep=;"', "sep=;;;;", "sep=\t"))
+def test_line_that_tells_excel_the_separator(trial: Planning, first: str) -> None:
+    """A first line as Excel reads and others write it is passed over, and counts as a line."""
+    rules = trial.path("rules.csv", f"{first}\nwho;periods;away;a_day;holes\nann;;Mon1;;\n")
+    assert trial.generate(trial.path("table.csv", f"{first}\n{TWO_LESSONS}"), "--rules", rules).returncode == 0
+    ended = trial.generate(trial.path("table.csv", f"{first}\n{TWO_LESSONS}a;ann;5a;r+r;;1;;;;;\n"))
+    assert ended.returncode == 3 and "line 5" in ended.stderr, ended.stderr
+
+
 def test_lengths_and_weeks(trial: Planning) -> None:
     ended = trial.generate(trial.path("table.csv", f"{HEAD}\nart;ann;5a;;Mon1-3;2;;;;;\nkunst;bob;5a;;Mon1-3;1;2;;;;\n"))
     assert "art 2, kunst" in ended.stderr, f"2 x 2: {ended.stderr}"
