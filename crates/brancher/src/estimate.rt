@@ -86,9 +86,11 @@ pub fn suits_links(alloc: Global, problem: &Problem) -> Result<bool, AllocError>
     Ok(taken_out < words.saturating_mul(weight))
 }
 
-/// Whether there are so few primary items, with so few options each, that a search over sets counts digit by digit.
+/// Whether there are so few primary items, with so few options each, that a search over sets counts digit by digit: as
+/// `most_options` of live_sets has it. Where it counts word by word, links may be many times as fast.
 fn are_few(rows: &[Row], primary: usize) -> bool {
-    primary <= 128 && rows.iter().take(primary).all(|row| row.options < 256)
+    let most = if primary > 64 { 127 } else { 255 };
+    primary <= 128 && rows.iter().take(primary).all(|row| row.options <= most)
 }
 
 /// The row of each item, without colours.
