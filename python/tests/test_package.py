@@ -164,18 +164,9 @@ def test_mistakes_of_a_command() -> None:
     assert ended.returncode == 3 and "IndexError" in ended.stderr, f"a mistake: {ended}"
 
 
-def is_running(process: str) -> bool:
-    """Whether a process hasn't ended. (One that has may wait for whoever asks how.)"""
-    state = "Z"
-    with contextlib.suppress(FileNotFoundError, ProcessLookupError):
-        state = pathlib.Path("/proc", process, "stat").read_text(encoding="ascii").rpartition(")")[2].split()[0]
-    return state != "Z"
-
-
-@pytest.mark.parametrize("number", (signal.SIGTERM, signal.SIGHUP, signal.SIGINT, signal.SIGKILL))
+@pytest.mark.parametrize("number", (signal.SIGTERM, signal.SIGHUP, signal.SIGINT))
 def test_signals_end_the_program(tmp_path: pathlib.Path, number: signal.Signals) -> None:
-    """A command that is ended by a signal, as where its terminal goes, ends the program that it runs; by one that
-    nobody hears, too, where the system has the command setpriv."""
+    """A command that is ended by a signal, as where its terminal goes, ends the program that it runs."""
     path, begun = tmp_path / "slow", tmp_path / "begun"
     path.write_text(f"#!/bin/sh\necho $$ > {begun}.new; mv {begun}.new {begun}\nexec sleep 100\n", encoding="ascii")
     path.chmod(0o755)
@@ -187,10 +178,11 @@ def test_signals_end_the_program(tmp_path: pathlib.Path, number: signal.Signals)
         run.send_signal(number)
         said = run.communicate(timeout=30)[1]
     assert b"Traceback" not in said, f"signal {number}: {said!r}"
-    process, until = begun.read_text(encoding="ascii").strip(), time.monotonic() + 10
-    while is_running(process) and time.monotonic() < until:
-        time.sleep(0.05)
-    assert not is_running(process), f"the program goes on after signal {number}"
+    state, place = "", pathlib.Path("/proc", begun.read_text(encoding="ascii").strip(), "stat")
+    with contextlib.suppress(FileNotFoundError, ProcessLookupError):
+        state = place.read_text(encoding="ascii").rpartition(")")[2].split()[0]
+    # (a process that has ended may wait for whoever asks how)
+    assert state in ("", "Z"), f"the program goes on after signal {number}: {state}"
 
 
 @pytest.mark.parametrize("module", ("fractions", "csv"))

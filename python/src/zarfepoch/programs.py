@@ -115,7 +115,7 @@ class ProgramAnswer(NamedTuple):
 def run_program(program: str, words: list[str], text: bytes) -> ProgramAnswer:
     """What the program answers to a problem on its standard input; `ProgramError` where it can't be run."""
     try:
-        ran = subprocess.run(dying_with_parent([program, *words]), input=text, capture_output=True)
+        ran = subprocess.run([program, *words], input=text, capture_output=True)
     except OSError as why:
         raise ProgramError(f"the program {program} can't be run: {why.strerror}") from None
     return ProgramAnswer(ran.returncode, ran.stdout, ran.stderr.decode(errors="replace").strip())

@@ -37,7 +37,7 @@ from .files.full_names import told_lines
 from .files.whole_files import Unreadable, read_bytes, write_out
 from .pictures.kinds import in_words
 from .pictures.reasons import reason_svg
-from .programs import dying_with_parent, is_program, known_program, missing_program, UnprovedNote
+from .programs import is_program, known_program, missing_program, UnprovedNote
 from .reasons.cover_reason import Named, Reason, clash
 from .reasons.even_room import any_reason
 
@@ -70,8 +70,7 @@ class Questions:
         self.asked += 1
         text = text_without(self.problem, kept)
         try:
-            words = dying_with_parent([self.program, "alone", "-", "--fuel", self.fuel])
-            ran = subprocess.run(words, input=text, capture_output=True)
+            ran = subprocess.run([self.program, "alone", "-", "--fuel", self.fuel], input=text, capture_output=True)
         except OSError as why:
             stop(f"the program can't be run: {why}")
         found = ran.returncode, ran.stdout.partition(b" ")[0].strip()

@@ -19,7 +19,7 @@ from typing import Optional
 from ..errors import TimeIsUp
 from ..files.cover_files import Option, Problem, shown
 from ..files.fault_words import first_few, plural, quoted
-from ..programs import dying_with_parent, UnprovedNote
+from ..programs import UnprovedNote
 
 # numbers by the names of their items; what items are called
 Amounts = dict[bytes, int]
@@ -287,8 +287,7 @@ def found_reason(program: str, text: bytes, seconds: Optional[float] = None) -> 
     """The reason that the program gives for the bytes of a problem file, or None where it finds none; an OSError where
     it can't be run, and `TimeIsUp` where it takes more than so many seconds, if they are told."""
     try:
-        ran = subprocess.run(dying_with_parent([program, "why", "-"]), input=text, capture_output=True,
-                             timeout=None if seconds is None else max(0.0, seconds))
+        ran = subprocess.run([program, "why", "-"], input=text, capture_output=True, timeout=None if seconds is None else max(0.0, seconds))
     except subprocess.TimeoutExpired:
         raise TimeIsUp("the time was over before a reason was found") from None
     if ran.returncode != 1 or not ran.stdout.startswith(b"none\n"):

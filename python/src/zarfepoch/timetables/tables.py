@@ -101,7 +101,7 @@ def read_table(path: str, wanted: tuple[str, ...], needed: tuple[str, ...], alia
     """The rows of a table by its head, each with the number of its line."""
     # (some spreadsheets end lines by a carriage return, with or without a line feed)
     text = re.sub("\r\n?", "\n", read_text(path))
-    # (a first line that tells Excel what parts the columns; the head shows it anyway)
+    # (a first line that says to Excel what parts the columns; the head shows it anyway)
     text = re.sub(r'\A"?sep=[,;\t]?"?[,;\t ]*(?=\n)', "", text, flags=re.IGNORECASE)
     lines = list(rows_in(path, text))
     if not lines:
