@@ -1,10 +1,8 @@
-//! The kernel of learning: a list of clauses that every exact cover satisfies, and the two ways in which another comes
-//! in.
+//! The kernel of learning: a list of clauses that every exact cover satisfies, and how another comes in.
 //!
 //! A clause comes in where it follows by unit propagation along hints (reverse unit propagation, with hints as in the
 //! format LRAT of SAT proofs): its literals are assumed false, and the hints' clauses are read in turn until one is
-//! violated. So the learner that found it need not be right (`learn`). What else may come in is what the caller proved
-//! to be implied (`admit`), such as that a prefix is barren.
+//! violated. So the learner that found it need not be right (`learn`).
 //!
 //! The first clauses are those of the primary items: one of its options is chosen. That two options clash is a clause
 //! that isn't stored: it is read off the problem where a hint names both. Once the empty clause is in, there is no
